@@ -18,13 +18,15 @@ use Rattle.seize_parts.specs.Blocks.{HasContent}
 use Rattle.seize.specs.Links.{Shows, shared_value}
 use Rattle.seize.specs.Collectors.{its_book, seen_by}
 use Rattle.seize_parts.specs.Laws.{moments_seen}
-use Rattle.seize_parts.specs.Makes.{EndsUse, IsOfKind}
+use Rattle.seize_parts.specs.Makes.{IsOfKind}
 use Rattle.seize.specs.Reclaims.{Learns, ReclaimsAll, moments_kept, moments_of}
 use Rattle.seize.specs.declared.collector.Collector.{Collector}
 use Rattle.seize.specs.declared.block.shared.Shared.{Shared}
 -- what was found stays found; and what one call makes and then another
 pub use Rattle.seize.proofs.Found.{found_still}
 pub use Rattle.seize_parts.proofs.Made.{makes_then, then_none}
+-- a pass that took a number, or gave one back
+pub use Rattle.seize.proofs.Same.{same_ended, same_taken}
 -- what the rule of links carries on, and what a name says
 pub use Rattle.seize_parts.proofs.Ruled.{follows_between, held_after, held_at_last, held_between, held_from, held_through, held_throughout, holds_said, kept_within, says_once, since_seen}
 -- from a read or a won exchange to what the link holds later, by the rule; and a block in hand is what its name says
@@ -51,11 +53,6 @@ pub found_content : {T R : Type 0} (collector : Collector T R) (coded : Coded T)
 found_content collector coded held shared v x shows is has =
     content_once coded v (shared_value shared) x
     (subst (λ (w : ℕ). IsLentAs w (coded.code (shared_value shared))) (some_is shows.1.1.0 v (sym shows.1.1.1 ∙ (shows.0 ∙ is))) shows.1.1.2) has
-
--- A registration's end only adds to what its pass has seen.
-pub use_ended : (s : ℕ) (pass pass' : Pass) (gave : Bool) → EndsUse s pass pass' gave → IsPrefix pass.seen pass'.seen
-use_ended s pass pass' true ends = ends.grows
-use_ended s pass pass' false ends = ends.0.grows
 
 -- What was retired as a pass had seen is retired in what was kept of it later.
 pub kept_retired : (known : Seen) (pass : Pass) (v q : ℕ) → known.name ≡ pass.name → IsPrefix pass.seen known.seen → Retired (moments_seen pass) v q → Retired (moments_kept known) v q

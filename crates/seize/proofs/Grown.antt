@@ -8,16 +8,17 @@ use Rattle.seize_table.specs.Place.{all_numbers}
 use Rattle.seize_table.specs.declared.refusal.Refusal.TheVariants.{NoNumbers}
 use Rattle.seize_machine.proofs.Facts.{eq_true}
 use Rattle.seize_model.specs.declared.kind.Kind.{Kind}
-use Rattle.seize_model.specs.Waiting.Calls.{is_free, is_owned, least_unused, take_number, with_number_in_use}
+use Rattle.seize_model.specs.Waiting.Calls.{is_free, is_owned, least_unused, set_guards, take_number, taking, with_number_in_use}
 use Rattle.seize_model.specs.Waiting.State.{ModelSlot, ModelState, unmade_slot, model_slot}
-use Rattle.seize_model.proofs.Simulation.Numbers.{slot_taken, taken_if}
+use Rattle.seize_model.specs.Waiting.Attempt.{StateAndGone}
+use Rattle.seize_alone.proofs.Ready.{taken_as, used_slot}
 use Rattle.seize_book.proofs.Facts.{equal}
 use Rattle.seize_book.specs.Tokens.{Name}
 use Rattle.seize_parts.specs.Kinds.{kind_if_owned}
 use Rattle.seize_parts.specs.Places.{LiesThen}
 use Rattle.seize_parts.specs.Placing.{ArePlaces, AreSound, Lies, lies_for, what_lies_in}
 use Rattle.seize_parts.specs.Reservations.{IsReservation, place_label}
-use Rattle.seize_parts.specs.Told.{Grew, Said}
+use Rattle.seize_parts.specs.Told.{Answers, Grew, told_of}
 use Rattle.seize_parts.specs.declared.alone.place.Place.{Place}
 use Rattle.seize_parts.proofs.Lying.{sound_set}
 
@@ -41,30 +42,26 @@ append_other (y ∷ ys) x d (suc t) other = append_other ys x d t (λ same. othe
 
 module _ {T : Type 0} (st : ModelState T ℕ) (k : ℕ) (kind : Kind) where
   abbrev pub grown : ModelState T ℕ
-  grown = with_number_in_use st k kind 0
+  grown = with_number_in_use st k kind
+
+  abbrev slot : ModelSlot T ℕ
+  slot = record { kind = kind; guards = 0; batch = st.rest; order = [] }
+
+  abbrev slots_if : Bool → List (ModelSlot T ℕ)
+  slots_if b = if b then st.slots ++ slot ∷ [] else slice_set st.slots k slot
 
   -- What stays.
 
-  other_if : (b : Bool) (t : ℕ) → (k == length st.slots) ≡ b → ¬ (t ≡ k) → model_slot (taken_if b st k kind 0) t ≡ model_slot st t
+  other_if : (b : Bool) (t : ℕ) → (k == length st.slots) ≡ b → ¬ (t ≡ k) → get_or (slots_if b) t unmade_slot ≡ model_slot st t
   other_if true t new other = append_other st.slots _ unmade_slot t (λ same. other (same ∙ sym (eq_true k (length st.slots) new)))
   other_if false t new other = get_or-set_other st.slots k t _ unmade_slot other
 
   other_slot : (t : ℕ) → ¬ (t ≡ k) → model_slot grown t ≡ model_slot st t
   other_slot t other = other_if (k == length st.slots) t refl other
 
-  size_if : (b : Bool) → ((taken_if b st k kind 0).size ≡ st.size) × ((taken_if b st k kind 0).links ≡ st.links)
-  size_if true = (refl, refl)
-  size_if false = (refl, refl)
-
-  pub grown_size : grown.size ≡ st.size
-  grown_size = (size_if (k == length st.slots)).0
-
-  pub grown_links : grown.links ≡ st.links
-  grown_links = (size_if (k == length st.slots)).1
-
   -- How many slots there are.
 
-  count_if : (b : Bool) → length (taken_if b st k kind 0).slots ≡ (if b then length st.slots + 1 else length st.slots)
+  count_if : (b : Bool) → length (slots_if b) ≡ (if b then length st.slots + 1 else length st.slots)
   count_if true = length-append st.slots _
   count_if false = length-set st.slots k _
 
@@ -87,10 +84,10 @@ module _ {T : Type 0} (st : ModelState T ℕ) (k : ℕ) (kind : Kind) where
       one e = cc
 
       own : (model_slot grown k).kind ≡ kind
-      own = (slot_taken st k kind (k == length st.slots) least refl).0
+      own = ap (λ (x : ModelSlot T ℕ). x.kind) (used_slot st k kind least)
 
       none : (model_slot grown k).guards ≡ 0
-      none = (slot_taken st k kind (k == length st.slots) least refl).1
+      none = ap (λ (x : ModelSlot T ℕ). x.guards) (used_slot st k kind least)
 
       for : Kind × ℕ → Option Lies
       for x = if is_free x.0 then None else Some (is_owned x.0, (x.1, (place_label n k 1, ((if not (x.1 == 0) then Some (k, n) else None), n.family))))
@@ -115,14 +112,21 @@ places_same n st items room same are = record {
 
 -- What the model's call answered where it did so.
 
-module _ {T : Type 0} (st : ModelState T ℕ) (kind : Kind) where
-  pub took : (n : ℕ) (mid : ModelState T ℕ) → Grew (take_number st kind 0) (Ok n) st mid → (n ≡ least_unused st.slots) × ((n == all_numbers) ≡ false) × (mid ≡ with_number_in_use st n kind 0)
+module _ {T Seen : Type 0} (puts : ℕ → T → List T) (weight : T → ℕ) (told : Seen → T → Seen) (st : ModelState T ℕ) (kind : Kind) (seen seen' : Seen) where
+  abbrev Took : ℕ → ModelState T ℕ → Type 0
+  Took n mid = (n ≡ least_unused st.slots) × ((n == all_numbers) ≡ false) × (mid ≡ (taking puts weight st n kind).0) × (seen' ≡ told_of told seen (taking puts weight st n kind).1)
+
+  pub took : (n : ℕ) (mid : ModelState T ℕ) → Grew told (take_number puts weight st kind 0) (Ok n) st mid seen seen' → Took n mid
   took n mid (inl refused) = absurd (cc)
   took n mid (inr said) = took_if (least_unused st.slots == all_numbers) refl said
     where
-      took_if : (b : Bool) → (least_unused st.slots == all_numbers) ≡ b → Said {T = T} {R = ℕ} (if b then (Err NoNumbers, (st, [])) else (Ok (least_unused st.slots), (with_number_in_use st (least_unused st.slots) kind 0, []))) (Ok n) mid
-          → (n ≡ least_unused st.slots) × ((n == all_numbers) ≡ false) × (mid ≡ with_number_in_use st n kind 0)
+      took_if : (b : Bool) → (least_unused st.slots == all_numbers) ≡ b
+          → Answers {A = ℕ} {T = T} {R = ℕ} told (let n = least_unused st.slots in let o = taking puts weight st n kind in if b then (Err NoNumbers, (st, [])) else (Ok n, (set_guards o.0 n 0, o.1))) (Ok n) mid seen seen' → Took n mid
       took_if true few is = absurd (cc)
       took_if false few is =
-          let least : n ≡ least_unused st.slots = cc in
-          (least, ap (λ (l : ℕ). l == all_numbers) least ∙ few, is.1 ∙ ap (λ (l : ℕ). with_number_in_use st l kind 0) (sym least))
+          let least : n ≡ least_unused st.slots = cc in let settled = taken_as st (least_unused st.slots) kind refl puts weight in (
+            least,
+            ap (λ (l : ℕ). l == all_numbers) least ∙ few,
+            is.0.1 ∙ ap (λ (o : StateAndGone T ℕ). o.0) settled ∙ ap (λ (l : ℕ). (taking puts weight st l kind).0) (sym least),
+            is.1 ∙ ap (λ (l : ℕ). told_of told seen (taking puts weight st l kind).1) (sym least),
+          )

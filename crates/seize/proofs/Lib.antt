@@ -10,6 +10,7 @@ pub mod Protected
 pub mod Retired
 pub mod Onwards
 pub mod Facts
+pub mod Same
 mod Lone
 mod Fresh
 mod Still
@@ -17,5 +18,8 @@ mod Grown
 mod Linked
 mod Reclaimed
 mod Outlined
+mod Taking
+mod Gathered
+mod Giving
 mod Running
 pub use Rattle.seize_alone.proofs.Outlines

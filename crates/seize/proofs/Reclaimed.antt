@@ -9,7 +9,7 @@ use Rattle.seize_machine.specs.Machine.State.{are_distinct, linked_values}
 use Rattle.seize_model.specs.declared.kind.Kind.{Kind}
 use Rattle.seize_model.specs.declared.kind.Kind.TheVariants.{Registered}
 use Rattle.seize_model.specs.Waiting.Attempt.{StateAndGone}
-use Rattle.seize_model.specs.Waiting.Calls.{Response, first_refusal, flush, is_free, is_owned, leave, no_guard, one_guard_less, refresh, retire, unless, with_number_free_if}
+use Rattle.seize_model.specs.Waiting.Calls.{Response, first_refusal, flush, given_back_if, is_free, is_owned, leave, no_guard, one_guard_less, refresh, retire, unless}
 use Rattle.seize_model.specs.Waiting.Further.{Lighter, with_further}
 use Rattle.seize_model.specs.Waiting.State.{ModelState, has_guard, model_slot}
 use Rattle.seize_book.specs.Entry.{Entry}
@@ -78,11 +78,11 @@ beside_so st s false guards kind are many one = kind
 
 -- what a leave with the last guard answers
 pub left_last : {T : Type 0} (puts : ℕ → T → List T) (weight : T → ℕ) (st : ModelState T ℕ) (s : ℕ) (owned : Bool) → no_guard st s ≡ None → (model_slot st s).kind ≡ kind_if_owned owned
-    → leave puts weight st s ≡ (Ok tt, with_number_free_if owned s (with_further puts weight s (one_guard_less st s)))
+    → leave puts weight st s ≡ (Ok tt, given_back_if puts weight owned s (with_further puts weight s (one_guard_less st s)))
 left_last {T} puts weight st s owned none kind =
     let o : StateAndGone T ℕ = with_further puts weight s (one_guard_less st s) in
-    ap (λ (r : Option Refusal). unless {A = Unit {0}} r st (Ok tt, with_number_free_if (is_owned (model_slot st s).kind) s o)) none
-    ∙ ap (λ (k : Kind). (Ok tt, with_number_free_if (is_owned k) s o)) kind ∙ ap (λ (b : Bool). (Ok tt, with_number_free_if b s o)) (same owned)
+    ap (λ (r : Option Refusal). unless {A = Unit {0}} r st (Ok tt, given_back_if puts weight (is_owned (model_slot st s).kind) s o)) none
+    ∙ ap (λ (k : Kind). (Ok tt, given_back_if puts weight (is_owned k) s o)) kind ∙ ap (λ (b : Bool). (Ok tt, given_back_if puts weight b s o)) (same owned)
   where
     same : (b : Bool) → is_owned (kind_if_owned b) ≡ b
     same true = refl

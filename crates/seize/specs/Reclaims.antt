@@ -10,16 +10,16 @@
 --     AllReclaimed c           each value that was ever retired is reclaimed, as the collector has seen
 --     ReclaimsAll c c' all     the same collector has seen a longer list. At the call the list was this: the collector had added nothing to
 --                              what it had seen, and all that comes after was made with its own pass. Links are as they were then, and a
---                              number that is in use afterwards was so then. It says `all` just where no number is in use; then no slot has
---                              a call, is active or has a batch (IsCleared), and each value that was ever retired is reclaimed. For either
---                              answer: where no slot had a call or was active at the call, so it is afterwards. And where no slot has a
---                              call or is active afterwards, each value that was ever retired is reclaimed, or stands in the batch of a
---                              slot whose number is in use (StandsInUse)
+--                              number that is in use afterwards was so then. It says `all` just where no number is in use; then each slot
+--                              is as if it had never been made, and each value that was ever retired is reclaimed. For either answer:
+--                              where no slot had a call or was active at the call, so it is afterwards. And where no slot has a call or
+--                              is active afterwards, each value that was ever retired is reclaimed, or stands in the batch of a slot
+--                              whose number is in use (StandsInUse)
 use Rattle.std.specs.Prelude.{◌≡◌, ◌⊎◌, ◌↔◌, ℕ, Bool, true, false, List, ◌++◌}
 use mathlib.Core.List.{IsPrefix}
 use Rattle.seize_machine.specs.Machine.History.{Moment, Reclaimed, Retired}
 use Rattle.seize_machine.specs.Machine.Laws.{is_quiet}
-use Rattle.seize_machine.specs.Machine.State.{State, link_at, slot_at}
+use Rattle.seize_machine.specs.Machine.State.{State, head_at, is_active, link_at, no_slot, slot_at}
 use Rattle.seize_book.specs.Book.{after, mine, moments}
 use Rattle.seize_book.specs.Entry.{Entry}
 use Rattle.seize_book.specs.Porters.{GoesOnTo}
@@ -27,7 +27,7 @@ use Rattle.seize_book.specs.Tokens.{start}
 use Rattle.seize_book.specs.declared.book.seen.Seen.{Seen}
 use Rattle.seize_calls.specs.Alone.{AllBy}
 use Rattle.seize.specs.Collectors.{its_book, its_id, its_size, seen_by}
-use Rattle.seize_parts.specs.Sweeps.{IsCleared, StandsInUse}
+use Rattle.seize_parts.specs.Sweeps.{StandsInUse}
 use Rattle.seize.specs.declared.collector.Collector.{Collector}
 
 abbrev pub moments_kept : Seen → List Moment
@@ -74,7 +74,7 @@ module _ {T R : Type 0} where
     pub links : (l : ℕ) → link_at (its_state c') l ≡ link_at (after (start (its_book c)) at_call) l
     pub numbers : (s : ℕ) → (slot_at (its_state c') s).used ≡ true → (slot_at (after (start (its_book c)) at_call) s).used ≡ true
     pub none_in_use : (all ≡ true) ↔ NoneInUse c'
-    pub cleared : all ≡ true → (s : ℕ) → IsCleared (its_state c') s
+    pub cleared : all ≡ true → (s : ℕ) → (slot_at (its_state c') s ≡ no_slot) × (is_active (head_at (its_state c') s) ≡ false)
     pub reclaimed : all ≡ true → AllReclaimed c'
     pub quiet : is_quiet (after (start (its_book c)) at_call) ≡ true → is_quiet (its_state c') ≡ true
     pub rests : is_quiet (its_state c') ≡ true → (v q : ℕ) → Retired (moments_of c') v q

@@ -17,7 +17,8 @@ slot_coded {T} {R} t r =
 
 abbrev pub state_coded : {T R : Type 0} → Coded T → Coded R → Coded (ModelState T R)
 state_coded {T} {R} t r =
-    code_by (ℕ × (List (ModelSlot T R) × (List (List (T × R)) × List (Option T))))
-    (coded× coded_ℕ (coded× (coded_list (slot_coded t r)) (coded× (coded_list (coded_list (coded× t r))) (coded_list (coded_option t)))))
-    (λ st. (st.size, (st.slots, (st.retired, st.links))))
-    (λ x. record { size = x.0; slots = x.1.0; retired = x.1.1.0; links = x.1.1.1 }) (λ _. refl)
+    code_by (ℕ × (List (ModelSlot T R) × (List (List (T × R)) × (List (Option T) × List (T × R)))))
+    (coded× coded_ℕ (coded× (coded_list (slot_coded t r)) (coded× (coded_list (coded_list (coded× t r)))
+    (coded× (coded_list (coded_option t)) (coded_list (coded× t r))))))
+    (λ st. (st.size, (st.slots, (st.retired, (st.links, st.rest)))))
+    (λ x. record { size = x.0; slots = x.1.0; retired = x.1.1.0; links = x.1.1.1.0; rest = x.1.1.1.1 }) (λ _. refl)

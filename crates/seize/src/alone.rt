@@ -19,11 +19,11 @@ use crate::alone::hands::Hands;
 pub use crate::alone::running::{Call, Reply};
 use crate::alone::sharing::shared;
 use seize_machine::machine;
-use seize_parts::alone::calls::held;
+use seize_parts::alone::calls::{attempt_taken, held, resume_in};
 use seize_parts::alone::place::{Place, back, out, room};
 use seize_parts::ender::Ender;
-use seize_parts::numbers::Numbers;
-use seize_parts::reclaim::{Boxed, Reclaim};
+use seize_parts::numbers::{Numbers, Taken as TakenSlot};
+use seize_parts::reclaim::{Boxed, Reclaim, Watch};
 use seize_parts::reservation::Reservation;
 use seize_table::Refusal;
 use seize_words::book::Pass;
@@ -84,7 +84,9 @@ impl<T: Drop, R: Reclaim<T>> Alone<T, R> {
     ghost use Rattle.seize.specs.Alones.{AsListed, IsLinkedSame, ListGrows, moments_in, opening_in};
     ghost use Rattle.seize_parts.specs.Kinds.{kind_if_owned};
     ghost use Rattle.seize_parts.specs.Laws.{LawsOf};
-    ghost use Rattle.seize_parts.specs.Told.{Grew, Said};
+    ghost use Rattle.std.specs.List.{sum_by};
+    ghost use Rattle.seize_model.specs.Waiting.Attempt.{with_gone};
+    ghost use Rattle.seize_parts.specs.Told.{Answers, Did, Grew, Said};
 
     /// How many links it has.
     pub fn links(&self) -> usize
@@ -153,14 +155,28 @@ impl<T: Drop, R: Reclaim<T>> Alone<T, R> {
     }
 
     // The least number that is not in use is taken, for a slot of this kind without a guard.
-    fn take(&mut self, owned: bool) -> Result<usize, Refusal>
-        ensures done { Grew (calls.take_number self.old.state (kind_if_owned owned) 0) result self.old.state self.new.state }
+    fn take<W: Watch<T>>(&mut self, owned: bool, watch: &mut W) -> Result<usize, Refusal>
+        ensures done { Grew W.told (calls.take_number R.puts R.weight self.old.state (kind_if_owned owned) 0) result
+            self.old.state self.new.state (W.seen watch.old) (W.seen watch.new) }
         ensures same { IsLinkedSame self.old self.new }
         ensures grows { ListGrows self.old self.new }
         ensures unchanged { OnErr result (self.new ≡ self.old) }
+        ensures same_reference { watch.exit.ghost_name ≡ watch.entry.ghost_name }
     {
         room(&mut self.places, self.made + 1)?;
-        let (slot, shelf) = self.numbers.take(&self.words, self.alloc, &mut self.pass)?;
+        let TakenSlot {
+            mut slot,
+            begun,
+            shelf,
+        } = self.numbers.take(&self.words, self.alloc, &mut self.pass)?;
+        attempt_taken(
+            &self.words,
+            &self.ender,
+            &mut slot,
+            begun,
+            &mut self.pass,
+            watch,
+        );
         let number = slot.number();
         let reservation = Reservation::new(&self.words, slot, 1);
         let place = Place {
@@ -198,47 +214,109 @@ impl<T: Drop, R: Reclaim<T>> Alone<T, R> {
         self.hands = Hands::of::<Brand, (usize, u64)>(&self.hands, &self.pass, &(s, guards));
     }
 
-    // The number of the slot, which has no guard, goes back.
-    fn free(&mut self, s: usize)
+    // The number of the slot, which has no guard, goes back, where another slot is in use or nothing is left. Else the slot gathers once:
+    // what slots left comes before its batch, and is attempted with it. It says whether the number went back.
+    fn end_once<W: Watch<T>>(&mut self, s: usize, watch: &mut W) -> bool
         requires { let slot = model_slot self.old.state s in (calls.is_free slot.kind ≡ false) × (has_guard slot ≡ false) }
-        ensures done { self.new.state ≡ calls.with_number_free self.old.state s }
+        ensures gives { result ≡ true → Did W.told (calls.give_back R.puts R.weight self.old.state s) self.new.state
+            (W.seen watch.old) (W.seen watch.new) }
+        ensures gathers { result ≡ false → Did W.told (calls.gathering R.puts R.weight self.old.state s) self.new.state
+            (W.seen watch.old) (W.seen watch.new) }
+        ensures left { result ≡ false → let o = calls.gathering R.puts R.weight self.old.state s in
+            (calls.give_back R.puts R.weight self.old.state s ≡ with_gone o.1 (calls.give_back R.puts R.weight o.0 s))
+            × (sum_by (λ v. R.weight v.0) (calls.rest_and_batch o.0 s)
+            < sum_by (λ v. R.weight v.0) (calls.rest_and_batch self.old.state s)) }
         ensures same { IsLinkedSame self.old self.new }
         ensures grows { ListGrows self.old self.new }
+        ensures same_reference { watch.exit.ghost_name ≡ watch.entry.ghost_name }
     {
-        let place = out(&mut self.places, s);
-        let Place { reservation, .. } = place;
-        self.numbers.free(&self.words, reservation, &mut self.pass);
-        self.hands = Hands::of::<Brand, usize>(&self.hands, &self.pass, &s);
+        let Place {
+            owned,
+            guards,
+            reservation,
+            unit,
+            shelf,
+        } = out(&mut self.places, s);
+        let Reservation {
+            mut slot,
+            rest,
+            most,
+            ..
+        } = reservation;
+        slot.seen().agree(&self.words.blocks.book);
+        slot.look(&self.words, &mut self.pass);
+        let Some(begun) = self.numbers.end(&self.words, slot, &mut self.pass) else {
+            self.hands = Hands::of::<Brand, (usize, bool)>(&self.hands, &self.pass, &(s, true));
+            return true;
+        };
+        let mut slot = begun;
+        resume_in(&self.words, &self.ender, &mut slot, &mut self.pass, watch);
+        let reservation = Reservation {
+            slot,
+            rest,
+            guards: 0,
+            most,
+        };
+        let place = Place {
+            owned,
+            guards,
+            reservation,
+            unit,
+            shelf,
+        };
+        back(&mut self.places, s, place);
+        self.hands = Hands::of::<Brand, (usize, bool)>(&self.hands, &self.pass, &(s, false));
+        false
     }
 
-    /// Takes the least number that is not in use, for a registered slot without a guard. It asks for memory where a slot is made, and where
-    /// the list of places has none for it yet.
+    // The number of the slot, which has no guard, goes back.
+    fn give_back<W: Watch<T>>(&mut self, s: usize, watch: &mut W)
+        requires { let slot = model_slot self.old.state s in (calls.is_free slot.kind ≡ false) × (has_guard slot ≡ false) }
+        ensures done { Did W.told (calls.give_back R.puts R.weight self.old.state s) self.new.state (W.seen watch.old) (W.seen watch.new) }
+        ensures same { IsLinkedSame self.old self.new }
+        ensures grows { ListGrows self.old self.new }
+        ensures same_reference { watch.exit.ghost_name ≡ watch.entry.ghost_name }
+    {
+        let mut given = false;
+        while !given {
+            given = self.end_once(s, watch);
+        }
+    }
+
+    /// Takes the least number that is not in use, for a registered slot without a guard. What slots left in their batches as they ended is
+    /// its batch then, and is attempted where it is full; the watch is told of each value that is gone, in order. It asks for memory where
+    /// a slot is made, and where the list of places has none for it yet.
     ///
     /// # Errors
     ///
     /// `NoMemory` where the allocator refuses. It is never `NoNumbers`: a list has room for fewer than 2^63 slots, so memory is refused
     /// before all 2^64 - 32 numbers are in use. That no clause says.
-    pub fn register(&mut self) -> Result<usize, Refusal>
-        ensures done { Grew (calls.take_number self.old.state registered 0) result self.old.state self.new.state }
+    pub fn register<W: Watch<T>>(&mut self, watch: &mut W) -> Result<usize, Refusal>
+        ensures done { Grew W.told (calls.take_number R.puts R.weight self.old.state registered 0) result self.old.state self.new.state
+            (W.seen watch.old) (W.seen watch.new) }
         ensures same { IsLinkedSame self.old self.new }
         ensures grows { ListGrows self.old self.new }
         ensures unchanged { OnErr result (self.new ≡ self.old) }
+        ensures same_reference { watch.exit.ghost_name ≡ watch.entry.ghost_name }
     {
-        self.take(false)
+        self.take(false, watch)
     }
 
-    /// Takes the least number that is not in use, for an owned slot, which has one guard. It asks for memory as `register` does.
+    /// Takes the least number that is not in use as `register` does, for an owned slot, which has one guard. What slots left is attempted
+    /// before the slot enters.
     ///
     /// # Errors
     ///
     /// As `register`.
-    pub fn enter_owned(&mut self) -> Result<usize, Refusal>
-        ensures done { Grew (calls.take_number self.old.state owned_slot 1) result self.old.state self.new.state }
+    pub fn enter_owned<W: Watch<T>>(&mut self, watch: &mut W) -> Result<usize, Refusal>
+        ensures done { Grew W.told (calls.take_number R.puts R.weight self.old.state owned_slot 1) result self.old.state self.new.state
+            (W.seen watch.old) (W.seen watch.new) }
         ensures same { IsLinkedSame self.old self.new }
         ensures grows { ListGrows self.old self.new }
         ensures unchanged { OnErr result (self.new ≡ self.old) }
+        ensures same_reference { watch.exit.ghost_name ≡ watch.entry.ghost_name }
     {
-        let number = self.take(true)?;
+        let number = self.take(true, watch)?;
         self.begin(number);
         Ok(number)
     }
@@ -266,22 +344,28 @@ impl<T: Drop, R: Reclaim<T>> Alone<T, R> {
         Ok(())
     }
 
-    /// Gives the number of a registered slot back. It answers false where the slot has a guard, and changes nothing. The slot's batch
-    /// stays for the next one who has the number. It takes no memory.
+    /// Gives the number of a registered slot back. It answers false where the slot has a guard, and changes nothing. While another slot is
+    /// in use, the slot's batch is left for whoever takes a number next. Else what slots left and the batch are gone, in that order, and
+    /// then what the reclaimer puts, in turn.
+    ///
+    /// The watch is told of each value that is gone, in order. It takes no memory and waits for nobody, but for what watch and reclaimer
+    /// do.
     ///
     /// # Errors
     ///
     /// In this order: `NotInUse`, `WrongKind` of an owned slot.
-    pub fn end(&mut self, s: usize) -> Result<bool, Refusal>
-        ensures done { Said (calls.end_slot self.old.state s) result self.new.state }
+    pub fn end<W: Watch<T>>(&mut self, s: usize, watch: &mut W) -> Result<bool, Refusal>
+        ensures done { Answers W.told (calls.end_slot R.puts R.weight self.old.state s) result self.new.state
+            (W.seen watch.old) (W.seen watch.new) }
         ensures same { IsLinkedSame self.old self.new }
         ensures grows { ListGrows self.old self.new }
         ensures unchanged { result ≢ Ok true → self.new ≡ self.old }
+        ensures same_reference { watch.exit.ghost_name ≡ watch.entry.ghost_name }
     {
         if self.registered(s)? > 0 {
             return Ok(false);
         }
-        self.free(s);
+        self.give_back(s, watch);
         Ok(true)
     }
 }

@@ -14,8 +14,9 @@ use seize_cells::Lock;
 use seize_machine::machine;
 use seize_parts::ender::Ender;
 use seize_parts::ending::end_all;
-use seize_parts::numbers::sweeping::{Heard, Sweeping};
-use seize_parts::numbers::{Numbers, Registering};
+use seize_parts::numbers::Numbers;
+use seize_parts::numbers::reclaiming::{Heard, Sweeping};
+use seize_parts::numbers::taking::take_slot;
 use seize_parts::reclaim::{Boxed, Reclaim, Watch};
 use seize_table::Refusal;
 use seize_words::book::{Pass, Porter, Seen, Stay};
@@ -29,8 +30,9 @@ use std::sync::Wait;
 /// It has numbered links, which hold a block each or nothing, and slots, which threads have by their registrations. It follows the Hyaline
 /// scheme with one list of waiting batches for each slot.
 ///
-/// Where nobody shares it, `reclaim_all` reclaims what waits in the batches of slots, also of those that were forgotten. The drop does
-/// that too, and then each value in a link goes to the reclaimer. It takes no memory and waits for nobody, but for what the reclaimer does.
+/// Where nobody shares it, `reclaim_all` reclaims what waits in the batches of slots, also of those that were forgotten, and what slots
+/// left as they ended. The drop does that too, and then each value in a link goes to the reclaimer. It takes no memory and waits for
+/// nobody, but for what the reclaimer does.
 ///
 /// A registration or a guard is lost where a type that holds it is given to `mem::forget`. Then values leak, with the memory of their
 /// rows of the store and of the slot's shelf:
@@ -80,15 +82,14 @@ impl<T: Drop> Collector<T> {
 impl<T: Drop, R: Reclaim<T>> Collector<T, R> {
     ghost use Rattle.std.specs.Prelude.{◌+◌, ◌≤◌, ◌^◌, max as greater, IfOk, IfErr};
     ghost use Rattle.std.specs.Int.{IsNextPowerOfTwo};
-    ghost use Rattle.seize_machine.specs.Machine.Event.{Take};
-    ghost use Rattle.seize_machine.specs.declared.machine.event.Answer.TheVariants.{Done};
     ghost use Rattle.seize_table.specs.declared.refusal.Refusal.TheVariants.{NoMemory as no_memory};
     ghost use Rattle.seize_parts.specs.Blocks.{content};
     ghost use Rattle.seize.specs.Collectors.{BeginsEmpty, IsBlockOf, IsNewPassOf, IsPassOf, IsRefusalFor, its_book, its_id, its_links, its_size, its_words, seen_by};
     ghost use Rattle.seize.specs.Registrations.{registered_in, registered_slot};
     ghost use Rattle.seize_book.specs.Porters.{Shuts};
     ghost use Rattle.seize_calls.specs.Slots.{IsPassFor};
-    ghost use Rattle.seize_parts.specs.Makes.{MakesNone, MakesOne};
+    ghost use Rattle.seize_parts.specs.Makes.{MakesNone, TakesNumber};
+    ghost use Rattle.seize_parts.specs.Puts.{PutBy};
     ghost use Rattle.seize_parts.specs.Numbers.{AreNumbers, IsLockFor};
 
     /// The same, with a reclaimer of the caller's own: each value that was retired goes to it once no slot can read it any more, and so
@@ -139,7 +140,7 @@ impl<T: Drop, R: Reclaim<T>> Collector<T, R> {
             return Err(Refusal::NoMemory);
         };
         porter.leave_home();
-        let numbers = Numbers::new(alloc, key, next, &words.blocks.book);
+        let numbers = Numbers::new(alloc, key, next, &words.blocks.book, &mut porter.pass());
         Ok(Collector {
             words,
             porter,
@@ -246,10 +247,13 @@ impl<T: Drop, R: Reclaim<T>> Collector<T, R> {
         Ok(Owned::of(key, block, &blocks.book))
     }
 
-    /// A slot for the calling thread: that of the least number that is not in use. The event `Take`.
+    /// A slot for the calling thread: that of the least number that is not in use. What slots left in their batches as they ended is its
+    /// batch then. Where that has the batch size or more, it is attempted: the events `Take` to `Return`; else `Take` alone. What is
+    /// reclaimed in the call goes to the reclaimer there, outside the lock of the numbers.
     ///
-    /// It waits for other threads that register or end, and looks through the slots that were made, from the first one that may be free. It
-    /// asks for memory only where no slot of a registration that ended is left.
+    /// It waits for other threads that register or end, and looks through the slots that were made, from the first one that may be free. An
+    /// attempt reads the head of each slot that was made, and tries again where another thread changes one. It asks for memory only where
+    /// no slot is left that ended. Values that other threads retired may end in this call: no lock may be held that their `Drop` takes.
     ///
     /// # Errors
     ///
@@ -262,31 +266,33 @@ impl<T: Drop, R: Reclaim<T>> Collector<T, R> {
     ) -> Result<Registration<'_, T, R>, Refusal>
         requires pass { IsPassOf self.now pass.old }
         ensures made { IfOk result (λ made. (registered_in made ≡ self.now)
-            × MakesOne pass.old pass.new (Take (registered_slot made)) Done) }
+            × TakesNumber (PutBy T.row.coded.code R.puts) (registered_slot made) pass.old pass.new) }
         ensures refused { IfErr result (λ refusal. MakesNone pass.old pass.new × (refusal ≡ no_memory)) }
     {
-        let registering = Registering {
-            words: &self.words,
-            alloc: self.alloc,
-        };
-        let (slot, shelf) = self.numbers.with(rt, registering, pass)?;
+        let (slot, shelf) = take_slot(
+            &self.numbers,
+            rt,
+            &self.words,
+            &self.ender,
+            self.alloc,
+            pass,
+        )?;
         Ok(Registration::of(self, slot, shelf))
     }
 }
 
 impl<T: Drop, R: Reclaim<T>> Collector<T, R> {
-    ghost use Rattle.std.specs.Prelude.{IfErr, IfOk, [], ◌∷◌};
-    ghost use Rattle.seize_machine.specs.Machine.Event.{Enter, Take};
-    ghost use Rattle.seize_machine.specs.declared.machine.event.Answer.TheVariants.{Done};
+    ghost use Rattle.std.specs.Prelude.{IfErr, IfOk};
     ghost use Rattle.seize_table.specs.declared.refusal.Refusal.TheVariants.{NoMemory as no_memory};
     ghost use Rattle.seize.specs.Collectors.{IsPassOf, seen_by};
     ghost use Rattle.seize_parts.specs.Laws.{HaveContents, LawsHold};
     ghost use Rattle.seize_parts.specs.Rules.{KeepsSince};
-    ghost use Rattle.seize_parts.specs.Makes.{Makes, MakesNone};
+    ghost use Rattle.seize_parts.specs.Makes.{MakesNone, TakesAndEnters};
+    ghost use Rattle.seize_parts.specs.Puts.{PutBy};
     ghost use Rattle.seize.specs.Guards.{owned_collector, owned_slot};
 
-    /// A guard that threads share, with a slot of its own: that of the least number that is not in use, which enters. The events `Take` and
-    /// `Enter`.
+    /// A guard that threads share, with a slot of its own: that of the least number that is not in use, which is taken as `register` takes
+    /// it, and then enters. So the guard holds back nothing of what slots left.
     ///
     /// It waits as `register` does, and asks for memory where that does; then it makes one atomic swap.
     ///
@@ -300,14 +306,17 @@ impl<T: Drop, R: Reclaim<T>> Collector<T, R> {
     ) -> Result<OwnedGuard<'_, T, R>, Refusal>
         requires pass { IsPassOf self.now pass.old }
         ensures made { IfOk result (λ guard. (owned_collector guard ≡ self.now)
-            × Makes pass.old pass.new ((Take (owned_slot guard), Done) ∷ (Enter (owned_slot guard), Done) ∷ [])) }
+            × TakesAndEnters (PutBy T.row.coded.code R.puts) (owned_slot guard) pass.old pass.new) }
         ensures refused { IfErr result (λ refusal. MakesNone pass.old pass.new × (refusal ≡ no_memory)) }
     {
-        let registering = Registering {
-            words: &self.words,
-            alloc: self.alloc,
-        };
-        let (slot, shelf) = self.numbers.with(rt, registering, pass)?;
+        let (slot, shelf) = take_slot(
+            &self.numbers,
+            rt,
+            &self.words,
+            &self.ender,
+            self.alloc,
+            pass,
+        )?;
         Ok(OwnedGuard::enter(self, slot, shelf, pass))
     }
 

@@ -9,7 +9,7 @@ use crate::collector::Collector;
 use crate::guard::{GuardCore, LocalGuard};
 use seize_calls::slot::Slot;
 use seize_cells::LocalLock;
-use seize_parts::numbers::Ending;
+use seize_parts::numbers::taking::end_slot;
 use seize_parts::reclaim::{Boxed, Reclaim};
 use seize_parts::reservation::Reservation;
 use seize_parts::shelf::Shelf;
@@ -182,15 +182,20 @@ impl<'c, T: Drop, R: Reclaim<T>> Registration<'c, T, R> {
         self.reservation.with(rt, retiring, pass);
     }
 
-    /// Gives the slot's number back: the event `Give`, and the answer true. The slot's batch stays for the next one who has the number.
+    /// Gives the slot's number back, and answers true. While another slot is in use, the slot's batch is left for whoever takes a number
+    /// next: the event `Give`. Else what slots left and the batch are attempted first, until nothing is left, or another slot is in use:
+    /// runs from `Begin(Gather)` to `Return`. What is reclaimed goes to the reclaimer there, outside the lock of the numbers. So where the
+    /// last slot in use ends, each value that was retired is reclaimed.
     ///
     /// Where a guard was forgotten the slot is active still. Then the answer is false, and no event is made: number and batch wait for
     /// `Collector::reclaim_all`, for `Collector::alone`, or for the collector's drop.
     ///
-    /// It takes no memory, and waits for other threads that register or end.
+    /// But for what the reclaimer does, it takes no memory. It waits for other threads that register or end. There is no bound for its
+    /// attempts where reclaimers put more each time.
     pub fn end<W: Wait>(self, rt: &W, pass: &mut Pass) -> bool
         requires pass { IsPassOf (registered_in self) pass.old }
-        ensures { EndsUse (registered_slot self.entry) pass.old pass.new result }
+        ensures ends { EndsUse (PutBy T.row.coded.code R.puts) (registered_slot self.entry) pass.old pass.new result }
+        ensures pass { IsPassOf (registered_in self.entry) pass.new }
     {
         let Registration {
             collector,
@@ -208,7 +213,7 @@ impl<'c, T: Drop, R: Reclaim<T>> Registration<'c, T, R> {
         }
         let slot = reservation.slot;
         slot.seen().agree(&words.blocks.book);
-        collector.numbers.with(rt, Ending { words, slot }, pass);
+        end_slot(&collector.numbers, rt, words, collector.ender(), slot, pass);
         true
     }
 

@@ -13,7 +13,7 @@ use Rattle.seize_table.specs.Place.{all_numbers}
 use Rattle.seize_machine.specs.Machine.State as machine
 use Rattle.seize_machine.specs.Machine.State.{Active, Head, Inactive, are_distinct, batch_at, has, head_at, is_active, linked_values, no_batch, waiting_at}
 use Rattle.seize_machine.specs.Machine.History.{IsReached}
-use Rattle.seize_machine.proofs.Facts.{IsSettled, batched_settled, count_listed, distinct_once, has_none, has_some, heads_length, linked_named, links_length, listed_once, occ, step_of, waiting_settled}
+use Rattle.seize_machine.proofs.Facts.{IsSettled, batched_settled, count_listed, distinct_once, has_none, has_some, heads_length, linked_named, links_length, listed_once, occ, rest_settled, step_of, waiting_settled}
 use Rattle.seize_model.specs.declared.kind.Kind.{Kind}
 use Rattle.seize_model.specs.declared.kind.Kind.TheVariants.{Free, Owned, Registered}
 use Rattle.seize_model.specs.Waiting.Calls.{is_free}
@@ -209,7 +209,7 @@ module _ {T R : Type 0} where
       slot_of s = slot_by (uses s) (machine.slot_at now s) (head_at now s)
 
       abbrev state_by : waiting.ModelState T R
-      state_by = record { size = size; slots = map slot_of (range_with_len 0 (length now.slots)); retired = map retired_by now.batches; links = map link_by now.links }
+      state_by = record { size = size; slots = map slot_of (range_with_len 0 (length now.slots)); retired = map retired_by now.batches; links = map link_by now.links; rest = values_by now.rest }
 
       many_by : length state_by.slots ≡ length now.slots
       many_by = length-map-range_with_len slot_of 0 (length now.slots)
@@ -290,6 +290,9 @@ module _ {T : Type 0} (code : T → Gv) (n : Name) (seen : List Entry) (size : �
   in_batch : (b : ℕ) → AreSettled (values b)
   in_batch b v c = batched_settled now reached b v c
 
+  in_rest : AreSettled now.rest
+  in_rest v c = rest_settled now reached v c
+
   -- the slots
 
   slot_now : (s : ℕ) → waiting.model_slot begun s ≡ slot_of names kinds uses size now s
@@ -345,12 +348,14 @@ module _ {T : Type 0} (code : T → Gv) (n : Name) (seen : List Entry) (size : �
         ∙ ap (λ (vs : List (Option T × Option ℕ)). map (λ v. v.0) vs) (sym (retired_now b));
     counts = count_now;
     links = all_held names kinds now.links (λ l v is. names_have code now.named lent v (linked_named now reached l v is).0);
+    rest = all_shown names kinds now.rest (all_named now.rest in_rest) (of_kinds now.rest in_rest);
   }
 
   by_kinds : ShowsReclaimers (Option T) (Option ℕ) (found names) (found kinds) (some_state begun) now
   by_kinds = record {
     batches = λ s. all_stand names kinds (batch s) (all_named (batch s) (in_slot s)) (of_kinds (batch s) (in_slot s)) ∙ ap (λ (slot : waiting.ModelSlot (Option T) (Option ℕ)). slot.batch) (sym (some_now s));
     retired = λ b. all_stand names kinds (values b) (all_named (values b) (in_batch b)) (of_kinds (values b) (in_batch b)) ∙ sym (retired_now b);
+    rest = all_stand names kinds now.rest (all_named now.rest in_rest) (of_kinds now.rest in_rest);
   }
 
   begun_held : Begun code size n seen uses

@@ -5,25 +5,25 @@
 --     used_below, active_below, off_below     what is so of a slot is so with them
 --     step_below       each call of a list gives the same reply and the same values gone, and then the state with them
 --     reclaim_below    a reclaim of all gives the same, and forgets them
-use Rattle.std.proofs.Common.{◌≡◌, ℕ, zero, suc, ◌+◌, ◌-◌, ◌^◌, ◌==◌, ◌||◌, Bool, true, false, not, cond, if◌then◌else◌, nat_lt, nat_le, max, List, [], ◌∷◌, ◌++◌, length, map, get_or, set, replicate, Option, Some, None, Result, refl, sym, ap, ◌∙◌, arith}
+use Rattle.std.proofs.Common.{◌≡◌, ℕ, zero, suc, ◌+◌, ◌-◌, ◌^◌, ◌==◌, ◌||◌, Bool, true, false, not, cond, if◌then◌else◌, nat_lt, List, [], ◌∷◌, ◌++◌, length, map, get_or, set, replicate, Option, Some, None, Result, refl, sym, ap, ◌∙◌, arith}
 use Rattle.std.specs.Prelude.{Err, Ok, is_some}
-use Rattle.std.specs.List.{flat_map, list_any, range_with_len}
+use Rattle.std.specs.List.{flat_map, list_any, range_with_len, sum_by}
 use Rattle.std.proofs.lemmas.List.{append_assoc, length-append, length-map, length-replicate, map-append}
+use Rattle.std.proofs.lemmas.List.Concat.{flat_map-cons}
 use Rattle.seize_table.specs.Place.{all_numbers}
 use Rattle.seize_table.specs.declared.refusal.Refusal.{Refusal}
 use Rattle.seize_table.specs.declared.refusal.Refusal.TheVariants.{NoNumbers, NotActive, NotInUse, TooManyGuards, WrongKind}
 use Rattle.seize_model.specs.declared.kind.Kind.{Kind}
-use Rattle.seize_model.specs.declared.kind.Kind.TheVariants.{Free, Owned, Registered}
+use Rattle.seize_model.specs.declared.kind.Kind.TheVariants.{Owned, Registered}
 use Rattle.seize_model.specs.Waiting.State.{ModelSlot, ModelState, has_guard, is_kept, unmade_slot, retired_at, set_slot, model_slot, waits_for}
-use Rattle.seize_model.specs.Waiting.Attempt.{StateAndGone, active_slots, attempt, gives_up, part, put, release, release_all, wait_if_active, with_batch_retired, with_batch_value, with_gone}
+use Rattle.seize_model.specs.Waiting.Attempt.{StateAndGone, active_slots, attempt, attempt_if_full, gives_up, is_full, part, put, release, release_all, wait_if_active, with_batch_retired, with_batch_value, with_gone}
 use Rattle.seize_model.specs.Waiting.Calls as calls
-use Rattle.seize_model.specs.Waiting.Calls.{Response, first_refusal, is_free, is_owned, least_unused, no_guard, not_registered, one_guard_less, part_all, part_if_alone, reclaim_all, set_guards, too_many, unless, unused, with_number_free, with_number_free_if, with_number_in_use, without_batch}
+use Rattle.seize_model.specs.Waiting.Calls.{Response, first_refusal, gathering, gathers, give_back, given_back_if, is_free, is_owned, least_unused, no_guard, not_registered, one_guard_less, others_in_use, part_all, part_if_alone, reclaim_all, rest_and_batch, set_guards, taking, too_many, unless, unused, with_number_free, with_number_in_use, with_rest_gathered}
 use Rattle.seize_model.specs.Waiting.Further.{further, gone_from, settle, still_to_come, with_further}
 use Rattle.seize_model.specs.Waiting.Lists.{Call, Effect, Reply, Register, EnterOwned, Enter, Leave, End, Refresh, Flush, Retire, Protect, Swap, done_reply, end_reply, reply, retire_old, step}
 use Rattle.seize_alone.specs.Holding.{with_gone_below, with_order_from}
 use Rattle.seize_alone.specs.Reclaiming.{SameBelow}
-use Rattle.seize_alone.proofs.Mapped.{fold_map, get_map, map_map, set_map}
-use Rattle.seize_alone.proofs.Reclaiming.{freed, parted_all}
+use Rattle.seize_alone.proofs.Mapped.{any_map, fold_map, get_map, map_map, set_map}
 
 pub get_below : {X : Type 0} (n m b : ℕ) (xs : List (List X)) → m ≡ n + b → get_or (replicate n [] ++ xs) m [] ≡ get_or xs b []
 get_below zero m b xs is = ap (λ (k : ℕ). get_or xs k []) (let same : m ≡ b = omega (arith, is) in same)
@@ -157,26 +157,38 @@ module _ {T R : Type 0} (n : ℕ) where
       ap (λ (slot : ModelSlot T R). set_slot (with_gone_below n st) s (record slot { batch = slot.batch ++ v ∷ [] })) (slot_below st s)
       ∙ write_below st s (record (model_slot st s) { batch = (model_slot st s).batch ++ v ∷ [] })
 
-  pub put_below : (st : ModelState T R) (s : ℕ) (v : T × R) → put (with_gone_below n st) s v ≡ below_out (put st s v)
-  put_below st s v =
-      (λ i. if nat_le (max 1 st.size) (length (model_slot (value_below st s v i) s).batch) then attempt (value_below st s v i) s else (value_below st s v i, []))
-      ∙ ap (λ (slot : ModelSlot T R). if nat_le (max 1 st.size) (length slot.batch) then attempt (with_gone_below n next) s else (with_gone_below n next, [])) (slot_below next s)
-      ∙ by_case (nat_le (max 1 st.size) (length (model_slot next s).batch))
+  full_below : (st : ModelState T R) (s : ℕ) → attempt_if_full (with_gone_below n st) s ≡ below_out (attempt_if_full st s)
+  full_below st s =
+      ap (λ (slot : ModelSlot T R). if is_full st.size slot.batch then attempt (with_gone_below n st) s else (with_gone_below n st, [])) (slot_below st s)
+      ∙ by_case (is_full st.size (model_slot st s).batch)
     where
-      next : ModelState T R
-      next = with_batch_value st s v
-
-      by_case : (k : Bool) → ◌≡◌ {A = StateAndGone T R} (if k then attempt (with_gone_below n next) s else (with_gone_below n next, [])) (below_out (if k then attempt next s else (next, [])))
-      by_case true = attempt_below next s
+      by_case : (k : Bool) → ◌≡◌ {A = StateAndGone T R} (if k then attempt (with_gone_below n st) s else (with_gone_below n st, [])) (below_out (if k then attempt st s else (st, [])))
+      by_case true = attempt_below st s
       by_case false = refl
+
+  pub put_below : (st : ModelState T R) (s : ℕ) (v : T × R) → put (with_gone_below n st) s v ≡ below_out (put st s v)
+  put_below st s v = ap (λ (k : ModelState T R). attempt_if_full k s) (value_below st s v) ∙ full_below (with_batch_value st s v) s
 
   -- Single steps.
 
   pub guards_below : (st : ModelState T R) (s k : ℕ) → set_guards (with_gone_below n st) s k ≡ with_gone_below n (set_guards st s k)
   guards_below st s k = ap (λ (slot : ModelSlot T R). set_slot (with_gone_below n st) s (record slot { guards = k })) (slot_below st s) ∙ write_below st s (record (model_slot st s) { guards = k })
 
+  pub left_below : (st : ModelState T R) (s : ℕ) → rest_and_batch (with_gone_below n st) s ≡ rest_and_batch st s
+  left_below st s = ap (λ (slot : ModelSlot T R). st.rest ++ slot.batch) (slot_below st s)
+
+  pub others_below : (st : ModelState T R) (s : ℕ) → others_in_use (with_gone_below n st) s ≡ others_in_use st s
+  others_below st s =
+      ap (list_any (λ (slot : ModelSlot T R). not (is_free slot.kind))) (sym (set_map (with_order_from n) st.slots s unmade_slot))
+      ∙ any_map (λ (slot : ModelSlot T R). not (is_free slot.kind)) (with_order_from n) (set st.slots s unmade_slot)
+
   pub free_below : (st : ModelState T R) (s : ℕ) → with_number_free (with_gone_below n st) s ≡ with_gone_below n (with_number_free st s)
-  free_below st s = ap (λ (slot : ModelSlot T R). set_slot (with_gone_below n st) s (record slot { kind = Free; guards = 0 })) (slot_below st s) ∙ write_below st s (record (model_slot st s) { kind = Free; guards = 0 })
+  free_below st s = λ i. record (with_gone_below n st) { slots = sym (set_map (with_order_from n) st.slots s unmade_slot) i; rest = left_below st s i }
+
+  pub gathered_below : (st : ModelState T R) (s : ℕ) → with_rest_gathered (with_gone_below n st) s ≡ with_gone_below n (with_rest_gathered st s)
+  gathered_below st s =
+      (λ i. record (set_slot (with_gone_below n st) s (record (slot_below st s i) { batch = left_below st s i })) { rest = [] })
+      ∙ ap (λ (k : ModelState T R). record k { rest = [] }) (write_below st s (record (model_slot st s) { batch = rest_and_batch st s }))
 
   less_below : (st : ModelState T R) (s : ℕ) → one_guard_less (with_gone_below n st) s ≡ below_out (one_guard_less st s)
   less_below st s =
@@ -195,22 +207,18 @@ module _ {T R : Type 0} (n : ℕ) where
       by_case true = part_below st s
       by_case false = refl
 
-  freed_if_below : (owned : Bool) (s : ℕ) (o : StateAndGone T R) → with_number_free_if owned s (below_out o) ≡ below_out (with_number_free_if owned s o)
-  freed_if_below true s o = λ i. (free_below o.0 s i, o.1)
-  freed_if_below false s o = refl
-
-  pub use_below : (st : ModelState T R) (m : ℕ) (kind : Kind) (guards : ℕ) → with_number_in_use (with_gone_below n st) m kind guards ≡ with_gone_below n (with_number_in_use st m kind guards)
-  use_below st m kind guards =
-      ap (λ (k : ℕ). if m == k then record (with_gone_below n st) { slots = map (with_order_from n) st.slots ++ made ∷ [] } else set_slot (with_gone_below n st) m (record (model_slot (with_gone_below n st) m) { kind = kind; guards = guards })) (length-map st.slots (with_order_from n))
+  pub use_below : (st : ModelState T R) (m : ℕ) (kind : Kind) → with_number_in_use (with_gone_below n st) m kind ≡ with_gone_below n (with_number_in_use st m kind)
+  use_below st m kind =
+      ap (λ (k : ℕ). record (with_gone_below n st) { slots = if m == k then map (with_order_from n) st.slots ++ made ∷ [] else set (map (with_order_from n) st.slots) m made; rest = [] }) (length-map st.slots (with_order_from n))
       ∙ by_case (m == length st.slots)
     where
       made : ModelSlot T R
-      made = record { kind = kind; guards = guards; batch = []; order = [] }
+      made = record { kind = kind; guards = 0; batch = st.rest; order = [] }
 
-      by_case : (k : Bool) → (if k then record (with_gone_below n st) { slots = map (with_order_from n) st.slots ++ record { kind = kind; guards = guards; batch = []; order = [] } ∷ [] } else set_slot (with_gone_below n st) m (record (model_slot (with_gone_below n st) m) { kind = kind; guards = guards }))
-          ≡ with_gone_below n (if k then record st { slots = st.slots ++ record { kind = kind; guards = guards; batch = []; order = [] } ∷ [] } else set_slot st m (record (model_slot st m) { kind = kind; guards = guards }))
-      by_case true = λ i. record (with_gone_below n st) { slots = sym (map-append (with_order_from n) st.slots (made ∷ [])) i }
-      by_case false = ap (λ (slot : ModelSlot T R). set_slot (with_gone_below n st) m (record slot { kind = kind; guards = guards })) (slot_below st m) ∙ write_below st m (record (model_slot st m) { kind = kind; guards = guards })
+      by_case : (k : Bool) → ◌≡◌ {A = ModelState T R} (record (with_gone_below n st) { slots = if k then map (with_order_from n) st.slots ++ made ∷ [] else set (map (with_order_from n) st.slots) m made; rest = [] })
+          (with_gone_below n (record st { slots = if k then st.slots ++ made ∷ [] else set st.slots m made; rest = [] }))
+      by_case true = λ i. record (with_gone_below n st) { slots = sym (map-append (with_order_from n) st.slots (made ∷ [])) i; rest = [] }
+      by_case false = λ i. record (with_gone_below n st) { slots = sym (set_map (with_order_from n) st.slots m made) i; rest = [] }
 
   pub least_below : (slots : List (ModelSlot T R)) → least_unused (map (with_order_from n) slots) ≡ least_unused slots
   least_below [] = refl
@@ -253,32 +261,11 @@ module _ {T R : Type 0} (n : ℕ) where
   many_guards_below : (st : ModelState T R) (s : ℕ) → too_many (with_gone_below n st) s ≡ too_many st s
   many_guards_below st s = ap (λ (slot : ModelSlot T R). if slot.guards == 2 ^ 64 - 1 then Some TooManyGuards else None) (slot_below st s)
 
-  abbrev taken : ModelState T R → Kind → ℕ → Bool → ℕ → Response ℕ T R
-  taken st kind guards k m = if k then (Err NoNumbers, (st, [])) else (Ok m, (with_number_in_use st m kind guards, []))
-
-  take_below : (st : ModelState T R) (kind : Kind) (guards : ℕ) → calls.take_number (with_gone_below n st) kind guards ≡ below_answer (calls.take_number st kind guards)
-  take_below st kind guards =
-      ap (λ (m : ℕ). taken (with_gone_below n st) kind guards (m == all_numbers) m) (least_below st.slots) ∙ by_case (least_unused st.slots == all_numbers)
-    where
-      by_case : (k : Bool) → taken (with_gone_below n st) kind guards k (least_unused st.slots) ≡ below_answer (taken st kind guards k (least_unused st.slots))
-      by_case true = refl
-      by_case false = λ i. (Ok (least_unused st.slots), (use_below st (least_unused st.slots) kind guards i, []))
-
   enter_below : (st : ModelState T R) (s : ℕ) → calls.enter (with_gone_below n st) s ≡ below_answer (calls.enter st s)
   enter_below st s =
       (λ i. unless (first_refusal (registered_below st s i) (many_guards_below st s i)) (with_gone_below n st) (Ok tt, (set_guards (with_gone_below n st) s ((slot_below st s i).guards + 1), [])))
       ∙ ap (λ (k : ModelState T R). unless (first_refusal (not_registered st s) (too_many st s)) (with_gone_below n st) (Ok tt, (k, []))) (guards_below st s ((model_slot st s).guards + 1))
       ∙ unless_below (first_refusal (not_registered st s) (too_many st s)) st (Ok tt, (set_guards st s ((model_slot st s).guards + 1), []))
-
-  end_below : (st : ModelState T R) (s : ℕ) → calls.end_slot (with_gone_below n st) s ≡ below_answer (calls.end_slot st s)
-  end_below st s =
-      (λ i. unless (registered_below st s i) (with_gone_below n st) (if has_guard (slot_below st s i) then (Ok false, (with_gone_below n st, [])) else (Ok true, (free_below st s i, []))))
-      ∙ ap (unless (not_registered st s) (with_gone_below n st)) (by_case (has_guard (model_slot st s)))
-      ∙ unless_below (not_registered st s) st (if has_guard (model_slot st s) then (Ok false, (st, [])) else (Ok true, (with_number_free st s, [])))
-    where
-      by_case : (k : Bool) → ◌≡◌ {A = Response Bool T R} (if k then (Ok false, (with_gone_below n st, [])) else (Ok true, (with_gone_below n (with_number_free st s), []))) (below_answer (if k then (Ok false, (st, [])) else (Ok true, (with_number_free st s, []))))
-      by_case true = refl
-      by_case false = refl
 
   protect_below : (st : ModelState T R) (s link : ℕ) → calls.protect (with_gone_below n st) s link ≡ below_answer (calls.protect st s link)
   protect_below st s link =
@@ -291,6 +278,66 @@ module _ {T R : Type 0} (n : ℕ) where
       ∙ unless_below (no_guard st s) st (Ok (calls.model_link st link), (record st { links = set st.links link new }, []))
 
   module _ (puts : R → T → List T) (weight : T → ℕ) where
+    -- Numbers.
+
+    pub taking_below : (st : ModelState T R) (m : ℕ) (kind : Kind) → taking puts weight (with_gone_below n st) m kind ≡ below_out (taking puts weight st m kind)
+    taking_below st m kind =
+        ap (λ (k : ModelState T R). with_further puts weight m (attempt_if_full k m)) (use_below st m kind)
+        ∙ ap (with_further puts weight m) (full_below (with_number_in_use st m kind) m)
+        ∙ further_below puts weight m (attempt_if_full (with_number_in_use st m kind) m)
+
+    abbrev took : ModelState T R → Kind → ℕ → Bool → ℕ → Response ℕ T R
+    took st kind guards k m = if k then (Err NoNumbers, (st, [])) else (Ok m, (set_guards (taking puts weight st m kind).0 m guards, (taking puts weight st m kind).1))
+
+    take_below : (st : ModelState T R) (kind : Kind) (guards : ℕ) → calls.take_number puts weight (with_gone_below n st) kind guards ≡ below_answer (calls.take_number puts weight st kind guards)
+    take_below st kind guards =
+        ap (λ (m : ℕ). took (with_gone_below n st) kind guards (m == all_numbers) m) (least_below st.slots) ∙ by_case (least_unused st.slots == all_numbers)
+      where
+        by_case : (k : Bool) → took (with_gone_below n st) kind guards k (least_unused st.slots) ≡ below_answer (took st kind guards k (least_unused st.slots))
+        by_case true = refl
+        by_case false =
+            ap (λ (o : StateAndGone T R). (Ok (least_unused st.slots), (set_guards o.0 (least_unused st.slots) guards, o.1))) (taking_below st (least_unused st.slots) kind)
+            ∙ ap (λ (k : ModelState T R). (Ok (least_unused st.slots), (k, (taking puts weight st (least_unused st.slots) kind).1))) (guards_below (taking puts weight st (least_unused st.slots) kind).0 (least_unused st.slots) guards)
+
+    pub gathering_below : (st : ModelState T R) (s : ℕ) → gathering puts weight (with_gone_below n st) s ≡ below_out (gathering puts weight st s)
+    gathering_below st s =
+        ap (λ (k : ModelState T R). with_further puts weight s (attempt k s)) (gathered_below st s)
+        ∙ ap (with_further puts weight s) (attempt_below (with_rest_gathered st s) s)
+        ∙ further_below puts weight s (attempt (with_rest_gathered st s) s)
+
+    gathers_below : (m : ℕ) (st : ModelState T R) (s : ℕ) → gathers puts weight m (with_gone_below n st) s ≡ below_out (gathers puts weight m st s)
+    gathers_below zero st s = refl
+    gathers_below (suc m) st s =
+        (λ i. if others_below st s i || (length (left_below st s i) == 0) then (with_gone_below n st, []) else with_gone (gathering_below st s i).1 (gathers puts weight m (gathering_below st s i).0 s))
+        ∙ ap (λ (o : StateAndGone T R). if others_in_use st s || (length (rest_and_batch st s) == 0) then (with_gone_below n st, []) else with_gone (gathering puts weight st s).1 o) (gathers_below m (gathering puts weight st s).0 s)
+        ∙ by_case (others_in_use st s || (length (rest_and_batch st s) == 0))
+      where
+        by_case : (k : Bool) → ◌≡◌ {A = StateAndGone T R} (if k then (with_gone_below n st, []) else with_gone (gathering puts weight st s).1 (below_out (gathers puts weight m (gathering puts weight st s).0 s)))
+            (below_out (if k then (st, []) else with_gone (gathering puts weight st s).1 (gathers puts weight m (gathering puts weight st s).0 s)))
+        by_case true = refl
+        by_case false = refl
+
+    pub give_below : (st : ModelState T R) (s : ℕ) → give_back puts weight (with_gone_below n st) s ≡ below_out (give_back puts weight st s)
+    give_below st s =
+        let given : StateAndGone T R → StateAndGone T R = λ o. (with_number_free o.0 s, o.1) in
+        let many : ℕ = sum_by (λ v. weight v.0) (rest_and_batch st s) in
+        ap (λ (l : List (T × R)). given (gathers puts weight (sum_by (λ v. weight v.0) l) (with_gone_below n st) s)) (left_below st s)
+        ∙ ap given (gathers_below many st s) ∙ ap (λ (k : ModelState T R). (k, (gathers puts weight many st s).1)) (free_below (gathers puts weight many st s).0 s)
+
+    given_if_below : (owned : Bool) (s : ℕ) (o : StateAndGone T R) → given_back_if puts weight owned s (below_out o) ≡ below_out (given_back_if puts weight owned s o)
+    given_if_below true s o = ap (with_gone o.1) (give_below o.0 s)
+    given_if_below false s o = refl
+
+    end_below : (st : ModelState T R) (s : ℕ) → calls.end_slot puts weight (with_gone_below n st) s ≡ below_answer (calls.end_slot puts weight st s)
+    end_below st s =
+        (λ i. unless (registered_below st s i) (with_gone_below n st) (if has_guard (slot_below st s i) then (Ok false, (with_gone_below n st, [])) else (Ok true, give_below st s i)))
+        ∙ ap (unless (not_registered st s) (with_gone_below n st)) (by_case (has_guard (model_slot st s)))
+        ∙ unless_below (not_registered st s) st (if has_guard (model_slot st s) then (Ok false, (st, [])) else (Ok true, give_back puts weight st s))
+      where
+        by_case : (k : Bool) → ◌≡◌ {A = Response Bool T R} (if k then (Ok false, (with_gone_below n st, [])) else (Ok true, below_out (give_back puts weight st s))) (below_answer (if k then (Ok false, (st, [])) else (Ok true, give_back puts weight st s)))
+        by_case true = refl
+        by_case false = refl
+
     -- a call by a slot, with what the values gone put
     done_below : (refusal : Option Refusal) (st : ModelState T R) (s : ℕ) (o o' : StateAndGone T R) → o ≡ below_out o' → unless {A = Unit {0}} refusal (with_gone_below n st) (Ok tt, with_further puts weight s o) ≡ below_answer (unless refusal st (Ok tt, with_further puts weight s o'))
     done_below refusal st s o o' is =
@@ -314,10 +361,10 @@ module _ {T R : Type 0} (n : ℕ) where
 
     leave_below : (st : ModelState T R) (s : ℕ) → calls.leave puts weight (with_gone_below n st) s ≡ below_answer (calls.leave puts weight st s)
     leave_below st s =
-        (λ i. unless (no_guard_below st s i) (with_gone_below n st) (Ok tt, with_number_free_if (is_owned (slot_below st s i).kind) s (with_further puts weight s (less_below st s i))))
-        ∙ ap (λ (o : StateAndGone T R). unless (no_guard st s) (with_gone_below n st) (Ok tt, with_number_free_if (is_owned (model_slot st s).kind) s o)) (further_below puts weight s (one_guard_less st s))
-        ∙ ap (λ (o : StateAndGone T R). unless (no_guard st s) (with_gone_below n st) (Ok tt, o)) (freed_if_below (is_owned (model_slot st s).kind) s (with_further puts weight s (one_guard_less st s)))
-        ∙ unless_below (no_guard st s) st (Ok tt, with_number_free_if (is_owned (model_slot st s).kind) s (with_further puts weight s (one_guard_less st s)))
+        (λ i. unless (no_guard_below st s i) (with_gone_below n st) (Ok tt, given_back_if puts weight (is_owned (slot_below st s i).kind) s (with_further puts weight s (less_below st s i))))
+        ∙ ap (λ (o : StateAndGone T R). unless (no_guard st s) (with_gone_below n st) (Ok tt, given_back_if puts weight (is_owned (model_slot st s).kind) s o)) (further_below puts weight s (one_guard_less st s))
+        ∙ ap (λ (o : StateAndGone T R). unless (no_guard st s) (with_gone_below n st) (Ok tt, o)) (given_if_below (is_owned (model_slot st s).kind) s (with_further puts weight s (one_guard_less st s)))
+        ∙ unless_below (no_guard st s) st (Ok tt, given_back_if puts weight (is_owned (model_slot st s).kind) s (with_further puts weight s (one_guard_less st s)))
 
     -- Each call.
 
@@ -349,23 +396,29 @@ module _ {T R : Type 0} (n : ℕ) where
   parts_below : (st : ModelState T R) (ss : List ℕ) → part_all (with_gone_below n st) ss ≡ below_out n (part_all st ss)
   parts_below st [] = refl
   parts_below st (s ∷ ss) =
-      ap (λ (o : StateAndGone T R). with_gone o.1 (part_all (with_number_free o.0 s) ss)) (part_below n st s)
-      ∙ ap (λ (k : ModelState T R). with_gone (part st s).1 (part_all k ss)) (free_below n (part st s).0 s)
-      ∙ ap (λ (o : StateAndGone T R). with_gone (part st s).1 o) (parts_below (with_number_free (part st s).0 s) ss)
+      ap (λ (o : StateAndGone T R). with_gone o.1 (part_all (set_guards o.0 s 0) ss)) (part_below n st s)
+      ∙ ap (λ (k : ModelState T R). with_gone (part st s).1 (part_all k ss)) (guards_below n (part st s).0 s 0)
+      ∙ ap (λ (o : StateAndGone T R). with_gone (part st s).1 o) (parts_below (set_guards (part st s).0 s 0) ss)
 
-  none_above : (xs : List (ModelSlot T R)) → map (with_order_from n) (map (λ (slot : ModelSlot T R). freed slot) xs) ≡ map (λ (slot : ModelSlot T R). freed slot) xs
-  none_above [] = refl
-  none_above (x ∷ xs) = ap (λ (l : List (ModelSlot T R)). freed x ∷ l) (none_above xs)
+  unmade_above : (xs : List (ModelSlot T R)) → ◌≡◌ {A = List (ModelSlot T R)} (map (λ slot. unmade_slot) (map (with_order_from n) xs)) (map (λ slot. unmade_slot) xs)
+  unmade_above [] = refl
+  unmade_above (x ∷ xs) = ap (λ (l : List (ModelSlot T R)). unmade_slot ∷ l) (unmade_above xs)
+
+  batches_above : (xs : List (ModelSlot T R)) → flat_map (λ slot. slot.batch) (map (with_order_from n) xs) ≡ flat_map (λ slot. slot.batch) xs
+  batches_above [] = refl
+  batches_above (x ∷ xs) = flat_map-cons (λ slot. slot.batch) (with_order_from n x) (map (with_order_from n) xs) ∙ ap (λ (l : List (T × R)). x.batch ++ l) (batches_above xs) ∙ sym (flat_map-cons (λ slot. slot.batch) x xs)
 
   pub reclaim_below : (puts : R → T → List T) (weight : T → ℕ) (st : ModelState T R) → reclaim_all puts weight (with_gone_below n st) ≡ reclaim_all puts weight st
   reclaim_below puts weight st =
       let all : List ℕ = range_with_len 0 (length st.slots) in
       let parted : StateAndGone T R = part_all st all in
-      let end : StateAndGone T R → StateAndGone T R = λ o. let gone = o.1 ++ flat_map (λ slot. slot.batch) o.0.slots in
-      (record o.0 { slots = map without_batch o.0.slots; retired = [] }, gone ++ gone_from puts weight (further puts gone)) in
-      ap (λ (k : ℕ). end (part_all (with_gone_below n st) (range_with_len 0 k))) (length-map st.slots (with_order_from n))
-      ∙ ap end (parts_below st all)
-      ∙ ap (λ (l : List (ModelSlot T R)). end (record parted.0 { slots = l }, parted.1)) (ap (map (with_order_from n)) (parted_all st) ∙ none_above st.slots ∙ sym (parted_all st))
+      let end : List (ModelSlot T R) → List (T × R) → StateAndGone T R = λ slots batches. let gone = parted.1 ++ batches ++ parted.0.rest in
+      (record parted.0 { slots = slots; retired = []; rest = [] }, gone ++ gone_from puts weight (further puts gone)) in
+      let whole : StateAndGone T R → StateAndGone T R = λ o. let gone = o.1 ++ flat_map (λ slot. slot.batch) o.0.slots ++ o.0.rest in
+      (record o.0 { slots = map (λ slot. unmade_slot) o.0.slots; retired = []; rest = [] }, gone ++ gone_from puts weight (further puts gone)) in
+      ap (λ (k : ℕ). whole (part_all (with_gone_below n st) (range_with_len 0 k))) (length-map st.slots (with_order_from n))
+      ∙ ap whole (parts_below st all)
+      ∙ (λ i. end (unmade_above parted.0.slots i) (batches_above parted.0.slots i))
 
 pub same_below : {T : Type 0} (puts : ℕ → T → List T) (weight : T → ℕ) → SameBelow puts weight
 same_below puts weight n st = (λ call. step_below n puts weight st call, reclaim_below n puts weight st)

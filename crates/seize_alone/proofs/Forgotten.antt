@@ -16,8 +16,8 @@ forgotten {T} code m st names kinds n seen holds =
     record { gone = holds.gone + m; all = subst (λ (now : ModelState T ℕ). HoldsAll code now names kinds n seen) (twice_below holds.gone m st) holds.all }
 
 pub all_gone_held : {T : Type 0} (code : T → Gv) (puts : ℕ → T → List T) (weight : T → ℕ) → AllGoneHeld code puts weight
-all_gone_held {T} code puts weight st names names' kinds kinds' kind n seen seen' legal distinct holds later =
-    let is = reclaims_in_turn puts weight st kind (orderly_held code st names kinds n seen legal distinct holds) in (
-      forgotten code (length (in_turn kind st).0.retired) _ names' kinds' n seen' (subst (λ (now : ModelState T ℕ). Holds code now names' kinds' n seen') is.2 later),
+all_gone_held {T} code puts weight st names names' kinds kinds' n seen seen' legal distinct holds later =
+    let is = reclaims_in_turn puts weight st (orderly_held code st names kinds n seen legal distinct holds) in (
+      forgotten code (length (in_turn st).0.retired) _ names' kinds' n seen' (subst (λ (now : ModelState T ℕ). Holds code now names' kinds' n seen') is.2 later),
       is.0,
     )

@@ -166,6 +166,7 @@ module _ {T R : Type 0} (names more : List (ℕ × T)) (kinds others : List (ℕ
         (shows_values_on names more (machine.batch_at ms b).values (waiting.retired_at st b) (subst (λ (vs : List (Option T × Option R)). ShowsValues (found names) (machine.batch_at ms b).values vs) (retired_same st b) (a.values b)));
     counts = a.counts;
     links = links_on names more ms.links st.links a.links;
+    rest = shows_values_on names more ms.rest st.rest a.rest;
   }
 
   pub reclaimers_on : ShowsReclaimers (Option T) (Option R) (found names) (found kinds) (some_state st) ms → ShowsReclaimers (Option T) (Option R) (found (names ++ more)) (found (kinds ++ others)) (some_state st) ms
@@ -177,4 +178,5 @@ module _ {T R : Type 0} (names more : List (ℕ × T)) (kinds others : List (ℕ
     retired = λ b.
         subst (λ (vs : List (Option T × Option R)). StandFor (found (names ++ more)) (found (kinds ++ others)) (machine.batch_at ms b).values vs) (sym (retired_same st b))
         (stand_for_on names more kinds others (machine.batch_at ms b).values (waiting.retired_at st b) (subst (λ (vs : List (Option T × Option R)). StandFor (found names) (found kinds) (machine.batch_at ms b).values vs) (retired_same st b) (a.retired b)));
+    rest = stand_for_on names more kinds others ms.rest st.rest a.rest;
   }

@@ -3,10 +3,9 @@ use Rattle.std.proofs.Common.{◌≡◌, ℕ, zero, suc, ◌+◌, ◌-◌, ◌*�
 use Rattle.std.specs.List.{fold, list_any}
 use Rattle.std.proofs.lemmas.List.{length-map, map-append}
 use Rattle.seize_model.specs.declared.kind.Kind.{Kind}
-use Rattle.seize_model.specs.declared.kind.Kind.TheVariants.{Free}
 use Rattle.seize_model.specs.Waiting.State.{ModelSlot, ModelState, has_guard, is_kept, unmade_slot, retired_at, set_slot, model_slot, waits_for}
-use Rattle.seize_model.specs.Waiting.Attempt.{StateAndGone, active_slots, attempt, gives_up, part, put, release, release_all, wait_if_active, with_batch_retired, with_batch_value, with_gone}
-use Rattle.seize_model.specs.Waiting.Calls.{is_free, least_unused, model_link, set_guards, with_number_free, with_number_in_use}
+use Rattle.seize_model.specs.Waiting.Attempt.{StateAndGone, active_slots, attempt, attempt_if_full, gives_up, is_full, part, put, release, release_all, wait_if_active, with_batch_retired, with_batch_value, with_gone}
+use Rattle.seize_model.specs.Waiting.Calls.{is_free, least_unused, model_link, others_in_use, rest_and_batch, set_guards, with_number_free, with_number_in_use, with_rest_gathered}
 use Rattle.seize_model.specs.Waiting.Further.{afterwards, further, put_by, settle, still_to_come, with_further}
 use Rattle.seize_alone.specs.Holding.{some_slot, some_state, some_value}
 
@@ -46,7 +45,7 @@ module _ {T R : Type 0} where
   retired_same st b = get_map all_some st.retired b [] [] refl
 
   set_same : (st : ModelState T R) (s : ℕ) (slot : ModelSlot T R) → set_slot (some_state st) s (some_slot slot) ≡ some_state (set_slot st s slot)
-  set_same st s slot = λ i. record { size = st.size; slots = sym (set_map some_slot st.slots s slot) i; retired = map all_some st.retired; links = map (λ (o : Option T). option_map Some o) st.links }
+  set_same st s slot = λ i. record (some_state st) { slots = sym (set_map some_slot st.slots s slot) i }
 
   kept_same : (st : ModelState T R) (b : ℕ) → is_kept (some_state st) b ≡ is_kept st b
   kept_same st b = any_map (waits_for b) some_slot st.slots
@@ -78,11 +77,9 @@ module _ {T R : Type 0} where
       let n : length (map all_some st.retired) ≡ length st.retired = length-map st.retired all_some in
       let emptied : set (map some_slot st.slots) s (record (model_slot (some_state st) s) { batch = [] }) ≡ map some_slot (set st.slots s (record (model_slot st s) { batch = [] })) =
       ap (λ (slot : ModelSlot (Option T) (Option R)). set (map some_slot st.slots) s (record slot { batch = [] })) (slot_same st s) ∙ sym (set_map some_slot st.slots s (record (model_slot st s) { batch = [] })) in
-      λ i. record {
-        size = st.size;
+      λ i. record (some_state st) {
         slots = ((λ j. map (wait_if_active (n j)) (emptied j)) ∙ map_map (wait_if_active (length st.retired)) some_slot some_slot (wait_if_active (length st.retired)) (wait_same (length st.retired)) (set st.slots s (record (model_slot st s) { batch = [] }))) i;
         retired = (ap (λ (slot : ModelSlot (Option T) (Option R)). map all_some st.retired ++ slot.batch ∷ []) (slot_same st s) ∙ sym (map-append all_some st.retired ((model_slot st s).batch ∷ []))) i;
-        links = map (λ (o : Option T). option_map Some o) st.links;
       }
 
   pub attempt_same : (st : ModelState T R) (s : ℕ) → attempt (some_state st) s ≡ some_out (attempt st s)
@@ -98,18 +95,21 @@ module _ {T R : Type 0} where
       ∙ ap (λ (batch : List (Option T × Option R)). set_slot (some_state st) s (record (some_slot (model_slot st s)) { batch = batch })) (sym (map-append some_value (model_slot st s).batch (v ∷ [])))
       ∙ set_same st s (record (model_slot st s) { batch = (model_slot st s).batch ++ v ∷ [] })
 
-  pub put_same : (st : ModelState T R) (s : ℕ) (v : T × R) → put (some_state st) s (some_value v) ≡ some_out (put st s v)
-  put_same st s v =
-      (λ i. if nat_le (max 1 st.size) (length (model_slot (value_same st s v i) s).batch) then attempt (value_same st s v i) s else (value_same st s v i, []))
-      ∙ ap (λ (n : ℕ). if nat_le (max 1 st.size) n then attempt (some_state next) s else (some_state next, [])) (ap (λ (slot : ModelSlot (Option T) (Option R)). length slot.batch) (slot_same next s) ∙ length-map (model_slot next s).batch some_value)
-      ∙ by_case (nat_le (max 1 st.size) (length (model_slot next s).batch))
-    where
-      next : ModelState T R
-      next = with_batch_value st s v
+  pub long_same : (size : ℕ) (vs : List (T × R)) → is_full size (all_some vs) ≡ is_full size vs
+  long_same size vs = ap (λ (n : ℕ). nat_le (max 1 size) n) (length-map vs some_value)
 
-      by_case : (k : Bool) → (if k then attempt (some_state next) s else (some_state next, [])) ≡ some_out (if k then attempt next s else (next, []))
-      by_case true = attempt_same next s
+  pub full_same : (st : ModelState T R) (s : ℕ) → attempt_if_full (some_state st) s ≡ some_out (attempt_if_full st s)
+  full_same st s =
+      ap (λ (k : Bool). if k then attempt (some_state st) s else (some_state st, []))
+      (ap (λ (slot : ModelSlot (Option T) (Option R)). is_full st.size slot.batch) (slot_same st s) ∙ long_same st.size (model_slot st s).batch)
+      ∙ by_case (is_full st.size (model_slot st s).batch)
+    where
+      by_case : (k : Bool) → (if k then attempt (some_state st) s else (some_state st, [])) ≡ some_out (if k then attempt st s else (st, []))
+      by_case true = attempt_same st s
       by_case false = refl
+
+  pub put_same : (st : ModelState T R) (s : ℕ) (v : T × R) → put (some_state st) s (some_value v) ≡ some_out (put st s v)
+  put_same st s v = ap (λ (now : ModelState (Option T) (Option R)). attempt_if_full now s) (value_same st s v) ∙ full_same (with_batch_value st s v) s
 
   pub released_same : (st : ModelState T R) (bs : List ℕ) → release_all (some_state st) bs ≡ some_out (release_all st bs)
   released_same st [] = refl
@@ -148,13 +148,13 @@ module _ {T R : Type 0} where
       sum_same h k is [] a = refl
       sum_same h k is (v ∷ vs) a = ap (λ (n : ℕ). fold (λ m x. m + h x) (a + n) (all_some vs)) (is v) ∙ sum_same h k is vs (a + k v)
 
-      left_same : (batch queue : List (T × R)) → still_to_come weight' (all_some batch) (all_some queue) ≡ still_to_come weight batch queue
-      left_same batch queue = λ i.
+      still_same : (batch queue : List (T × R)) → still_to_come weight' (all_some batch) (all_some queue) ≡ still_to_come weight batch queue
+      still_same batch queue = λ i.
           sum_same (λ v. 2 * weight' v.0 - 1) (λ v. 2 * weight v.0 - 1) (λ v. ap (λ (n : ℕ). 2 * n - 1) (weighs v.0)) batch 0 i + sum_same (λ v. 2 * weight' v.0) (λ v. 2 * weight v.0) (λ v. ap (λ (n : ℕ). 2 * n) (weighs v.0)) queue 0 i
 
       pub afterwards_same : (st : ModelState T R) (s : ℕ) (queue : List (T × R)) → afterwards puts' weight' (some_state st) s (all_some queue) ≡ some_out (afterwards puts weight st s queue)
       afterwards_same st s queue =
-          ap (λ (n : ℕ). settle puts' n (some_state st) s (all_some queue)) (ap (λ (slot : ModelSlot (Option T) (Option R)). still_to_come weight' slot.batch (all_some queue)) (slot_same st s) ∙ left_same (model_slot st s).batch queue)
+          ap (λ (n : ℕ). settle puts' n (some_state st) s (all_some queue)) (ap (λ (slot : ModelSlot (Option T) (Option R)). still_to_come weight' slot.batch (all_some queue)) (slot_same st s) ∙ still_same (model_slot st s).batch queue)
           ∙ settle_same (still_to_come weight (model_slot st s).batch queue) st s queue
 
       pub with_further_same : (s : ℕ) (o : StateAndGone T R) → with_further puts' weight' s (some_out o) ≡ some_out (with_further puts weight s o)
@@ -168,8 +168,19 @@ module _ {T R : Type 0} where
   pub guards_same : (st : ModelState T R) (s n : ℕ) → set_guards (some_state st) s n ≡ some_state (set_guards st s n)
   guards_same st s n = ap (λ (slot : ModelSlot (Option T) (Option R)). set_slot (some_state st) s (record slot { guards = n })) (slot_same st s) ∙ set_same st s (record (model_slot st s) { guards = n })
 
+  pub left_same : (st : ModelState T R) (s : ℕ) → rest_and_batch (some_state st) s ≡ all_some (rest_and_batch st s)
+  left_same st s = ap (λ (slot : ModelSlot (Option T) (Option R)). all_some st.rest ++ slot.batch) (slot_same st s) ∙ sym (map-append some_value st.rest (model_slot st s).batch)
+
+  pub others_same : (st : ModelState T R) (s : ℕ) → others_in_use (some_state st) s ≡ others_in_use st s
+  others_same st s = ap (list_any (λ (slot : ModelSlot (Option T) (Option R)). not (is_free slot.kind))) (sym (set_map some_slot st.slots s unmade_slot)) ∙ any_map (λ (slot : ModelSlot (Option T) (Option R)). not (is_free slot.kind)) some_slot (set st.slots s unmade_slot)
+
   pub free_same : (st : ModelState T R) (s : ℕ) → with_number_free (some_state st) s ≡ some_state (with_number_free st s)
-  free_same st s = ap (λ (slot : ModelSlot (Option T) (Option R)). set_slot (some_state st) s (record slot { kind = Free; guards = 0 })) (slot_same st s) ∙ set_same st s (record (model_slot st s) { kind = Free; guards = 0 })
+  free_same st s = λ i. record (some_state st) { slots = sym (set_map some_slot st.slots s unmade_slot) i; rest = left_same st s i }
+
+  pub gathered_same : (st : ModelState T R) (s : ℕ) → with_rest_gathered (some_state st) s ≡ some_state (with_rest_gathered st s)
+  gathered_same st s =
+      (λ i. record (set_slot (some_state st) s (record (slot_same st s i) { batch = left_same st s i })) { rest = [] })
+      ∙ ap (λ (now : ModelState (Option T) (Option R)). record now { rest = [] }) (set_same st s (record (model_slot st s) { batch = rest_and_batch st s }))
 
   pub link_same : (st : ModelState T R) (l : ℕ) → model_link (some_state st) l ≡ option_map Some (model_link st l)
   link_same st l = get_map (λ (o : Option T). option_map Some o) st.links l None None refl
@@ -178,21 +189,16 @@ module _ {T R : Type 0} where
   least_same [] = refl
   least_same (slot ∷ slots) = ap (λ (n : ℕ). cond (not (is_free slot.kind)) (1 + n) 0) (least_same slots)
 
-  pub use_same : (st : ModelState T R) (n : ℕ) (kind : Kind) (guards : ℕ) → with_number_in_use (some_state st) n kind guards ≡ some_state (with_number_in_use st n kind guards)
-  use_same st n kind guards = ap (λ (long : ℕ). if n == long then grown else changed) (length-map st.slots some_slot) ∙ by_case (n == length st.slots)
+  pub use_same : (st : ModelState T R) (n : ℕ) (kind : Kind) → with_number_in_use (some_state st) n kind ≡ some_state (with_number_in_use st n kind)
+  use_same st n kind = ap (λ (long : ℕ). record (some_state st) { slots = if n == long then map some_slot st.slots ++ some_slot new ∷ [] else set (map some_slot st.slots) n (some_slot new); rest = [] }) (length-map st.slots some_slot) ∙ by_case (n == length st.slots)
     where
       new : ModelSlot T R
-      new = record { kind = kind; guards = guards; batch = []; order = [] }
+      new = record { kind = kind; guards = 0; batch = st.rest; order = [] }
 
-      grown : ModelState (Option T) (Option R)
-      grown = record (some_state st) { slots = map some_slot st.slots ++ record { kind = kind; guards = guards; batch = []; order = [] } ∷ [] }
-
-      changed : ModelState (Option T) (Option R)
-      changed = set_slot (some_state st) n (record (model_slot (some_state st) n) { kind = kind; guards = guards })
-
-      by_case : (k : Bool) → (if k then grown else changed) ≡ some_state (if k then record st { slots = st.slots ++ new ∷ [] } else set_slot st n (record (model_slot st n) { kind = kind; guards = guards }))
-      by_case true = λ i. record (some_state st) { slots = sym (map-append some_slot st.slots (new ∷ [])) i }
-      by_case false = ap (λ (slot : ModelSlot (Option T) (Option R)). set_slot (some_state st) n (record slot { kind = kind; guards = guards })) (slot_same st n) ∙ set_same st n (record (model_slot st n) { kind = kind; guards = guards })
+      by_case : (k : Bool) → ◌≡◌ {A = ModelState (Option T) (Option R)} (record (some_state st) { slots = if k then map some_slot st.slots ++ some_slot new ∷ [] else set (map some_slot st.slots) n (some_slot new); rest = [] })
+          (some_state (record st { slots = if k then st.slots ++ new ∷ [] else set st.slots n new; rest = [] }))
+      by_case true = λ i. record (some_state st) { slots = sym (map-append some_slot st.slots (new ∷ [])) i; rest = [] }
+      by_case false = λ i. record (some_state st) { slots = sym (set_map some_slot st.slots n new) i; rest = [] }
 
   pub swap_same : (st : ModelState T R) (l : ℕ) (new : Option T) → record (some_state st) { links = set (some_state st).links l (option_map Some new) } ≡ some_state (record st { links = set st.links l new })
   swap_same st l new = λ i. record (some_state st) { links = sym (set_map (λ (o : Option T). option_map Some o) st.links l new) i }

@@ -1,5 +1,5 @@
 -- What calls leave as it is, beside the size: the outline of a state, which is each slot's kind and number of guards, and the links.
-use Rattle.std.proofs.Common.{◌≡◌, ℕ, zero, suc, ◌==◌, ◌-◌, ◌||◌, Bool, true, false, if◌then◌else◌, nat_le, max, List, [], ◌∷◌, ◌++◌, length, get_or, map, set, Option, Some, None, refl, sym, ◌∙◌, ap}
+use Rattle.std.proofs.Common.{◌≡◌, ℕ, zero, suc, ◌==◌, ◌-◌, ◌||◌, Bool, true, false, if◌then◌else◌, List, [], ◌∷◌, ◌++◌, length, get_or, map, set, Option, Some, None, refl, sym, ◌∙◌, ap}
 use Rattle.std.specs.Prelude.{Ok}
 use Rattle.std.proofs.Math.ListN.{get_or-map}
 use Rattle.std.proofs.Math.Seq.{map-set_same}
@@ -9,11 +9,11 @@ use Rattle.seize_machine.proofs.Facts.{eq_true}
 use Rattle.seize_model.specs.declared.kind.Kind.{Kind}
 use Rattle.seize_model.specs.declared.kind.Kind.TheVariants.{Free}
 use Rattle.seize_model.specs.Waiting.State.{ModelSlot, ModelState, has_guard, unmade_slot, set_slot, model_slot}
-use Rattle.seize_model.specs.Waiting.Attempt.{StateAndGone, attempt, gives_up, part, put, release, release_all, wait_if_active, with_batch_retired, with_batch_value}
-use Rattle.seize_model.specs.Waiting.Calls.{flush, is_owned, no_guard, one_guard_less, part_if_alone, refresh, retire, set_guards, unless, unused, with_number_free}
+use Rattle.seize_model.specs.Waiting.Attempt.{StateAndGone, attempt, attempt_if_full, gives_up, is_full, part, put, release, release_all, wait_if_active, with_batch_retired, with_batch_value}
+use Rattle.seize_model.specs.Waiting.Calls.{flush, gathering, is_owned, no_guard, one_guard_less, part_if_alone, refresh, rest_and_batch, retire, set_guards, taking, unless, unused, with_number_free, with_number_in_use, with_rest_gathered}
 use Rattle.seize_model.specs.Waiting.Further.{afterwards, further, settle, with_further}
 use Rattle.seize_model.proofs.Cases.{either}
-use Rattle.seize_model.proofs.WaitingSets.LinkCounts.{releases_beside}
+use Rattle.seize_model.proofs.WaitingSets.Beside.{releases_beside}
 use Rattle.seize_alone.specs.Calls.{OutlineStays, SameOutline}
 
 abbrev pub outline_of : {T R : Type 0} → ModelSlot T R → Kind × ℕ
@@ -54,7 +54,7 @@ module _ {T R : Type 0} (st : ModelState T R) (s : ℕ) where
   guards_length n = set_length (record (model_slot st s) { guards = n })
 
   pub free_length : length (with_number_free st s).slots ≡ length st.slots
-  free_length = set_length (record (model_slot st s) { kind = Free; guards = 0 })
+  free_length = set_length unmade_slot
 
 -- The parts of calls.
 
@@ -85,15 +85,11 @@ module _ {T R : Type 0} where
   pub attempt_frame : (st : ModelState T R) (s : ℕ) → frame (attempt st s).0 ≡ frame st
   attempt_frame st s = either (λ (o : StateAndGone T R). frame o.0 ≡ frame st) (gives_up st s) _ _ refl (release_frame (with_batch_retired st s) (length st.retired) ∙ retired_frame st s)
 
-  pub put_frame : (st : ModelState T R) (s : ℕ) (v : T × R) → frame (put st s v).0 ≡ frame st
-  put_frame st s v =
-      either (λ (o : StateAndGone T R). frame o.0 ≡ frame st) (nat_le (max 1 st.size) (length (model_slot next s).batch)) _ _ (attempt_frame next s ∙ batch) batch
-    where
-      next : ModelState T R
-      next = with_batch_value st s v
+  pub full_frame : (st : ModelState T R) (s : ℕ) → frame (attempt_if_full st s).0 ≡ frame st
+  full_frame st s = either (λ (o : StateAndGone T R). frame o.0 ≡ frame st) (is_full st.size (model_slot st s).batch) _ _ (attempt_frame st s) refl
 
-      batch : frame (with_batch_value st s v) ≡ frame st
-      batch = set_frame st s (record (model_slot st s) { batch = (model_slot st s).batch ++ v ∷ [] }) refl
+  pub put_frame : (st : ModelState T R) (s : ℕ) (v : T × R) → frame (put st s v).0 ≡ frame st
+  put_frame st s v = full_frame (with_batch_value st s v) s ∙ set_frame st s (record (model_slot st s) { batch = (model_slot st s).batch ++ v ∷ [] }) refl
 
   pub settle_frame : (puts : R → T → List T) (n : ℕ) (st : ModelState T R) (s : ℕ) (queue : List (T × R)) → frame (settle puts n st s queue).0 ≡ frame st
   settle_frame puts zero st s queue = refl
@@ -126,6 +122,21 @@ module _ {T R : Type 0} (puts : R → T → List T) (weight : T → ℕ) where
 
   pub parts_frame : (st : ModelState T R) (s : ℕ) → frame (with_further puts weight s (one_guard_less st s)).0 ≡ frame (set_guards st s ((model_slot st s).guards - 1))
   parts_frame st s = further_frame (set_guards st s ((model_slot st s).guards - 1)) s (one_guard_less st s) (less_frame st s)
+
+  -- where a number is taken, what was left is attempted besides
+  pub taking_frame : (st : ModelState T R) (n : ℕ) (kind : Kind) → frame (taking puts weight st n kind).0 ≡ frame (with_number_in_use st n kind)
+  taking_frame st n kind = further_frame (with_number_in_use st n kind) n (attempt_if_full (with_number_in_use st n kind) n) (full_frame (with_number_in_use st n kind) n)
+
+  pub gathering_frame : (st : ModelState T R) (s : ℕ) → frame (gathering puts weight st s).0 ≡ frame st
+  gathering_frame st s =
+      further_frame st s (attempt (with_rest_gathered st s) s)
+      (attempt_frame (with_rest_gathered st s) s ∙ set_frame st s (record (model_slot st s) { batch = rest_and_batch st s }) refl)
+
+  pub gathering_outline : (st : ModelState T R) (s : ℕ) → outline (gathering puts weight st s).0 ≡ outline st
+  gathering_outline st s = ap (λ (f : List (Kind × ℕ) × List (Option T)). f.0) (gathering_frame st s)
+
+  pub gathering_links : (st : ModelState T R) (s : ℕ) → (gathering puts weight st s).0.links ≡ st.links
+  gathering_links st s = ap (λ (f : List (Kind × ℕ) × List (Option T)). f.1) (gathering_frame st s)
 
   pub retire_frame : (st : ModelState T R) (s : ℕ) (x : T) (kind : R) → frame (retire puts weight st s x kind).1.0 ≡ frame st
   retire_frame st s x kind = unless_frame (unused st s) st (with_further puts weight s (put st s (x, kind))) (further_frame st s (put st s (x, kind)) (put_frame st s (x, kind)))
@@ -172,4 +183,6 @@ outline_stays puts weight st s = (
   same_outline st (refresh puts weight st s).1.0 (refresh_frame puts weight st s),
   same_outline st (flush puts weight st s).1.0 (flush_frame puts weight st s),
   λ x kind. same_outline st (retire puts weight st s x kind).1.0 (retire_frame puts weight st s x kind),
+  same_outline st (gathering puts weight st s).0 (gathering_frame puts weight st s),
+  λ kind. same_outline (with_number_in_use st s kind) (taking puts weight st s kind).0 (taking_frame puts weight st s kind),
 )

@@ -1,11 +1,13 @@
 -- What callers of the laws know: which events are made alone, the pass that is ready for a call, and what the model's calls answer where
 -- these laws speak of their states.
---     entry_alone, made_alone      an event that a slot's holder added;  the number of a slot that was just made is taken
+--     entry_alone, made_alone      an event that a slot's holder added, at the pass's size;  the number of a slot that was just made is taken
 --     swapped_alone                a link was exchanged
 --     ready_holds, ready_sole      the pass that was made ready for a call has seen what it had seen, where it is alone
 --     nothing_further, nothing_flushed     what a call does where the reclaimer puts nothing
 --     least_is                     which number is taken
 --     entered, ended, kept, protected, exchanged, left_beside, refreshed_beside, taken     what the model's calls answer
+--     used_slot, taken_slot        the slot of a number that was taken, before what was left is attempted and after that
+--     taking_short, taking_full    what is done as a number is taken, where less was left than a full batch, and where that was full
 use Rattle.std.proofs.Common.{◌≡◌, ℕ, ◌<◌, ◌==◌, ◌||◌, ◌+◌, ◌-◌, ◌^◌, ◌≤◌, Bool, true, false, not, ◌&&◌, if◌then◌else◌, List, [], ◌∷◌, length, get_or, set, Option, Some, None, refl, sym, ap, subst, ◌∙◌, arith}
 use Rattle.std.specs.Prelude.{Err, Ok}
 use Rattle.std.proofs.lemmas.List.{append-nil}
@@ -25,13 +27,14 @@ use Rattle.seize_machine.proofs.Facts.{if_some, swapped}
 use Rattle.seize_model.specs.declared.kind.Kind.{Kind}
 use Rattle.seize_model.specs.declared.kind.Kind.TheVariants.{Registered}
 use Rattle.seize_model.specs.Waiting.State as waiting
-use Rattle.seize_model.specs.Waiting.Attempt.{StateAndGone, attempt, part, with_gone}
-use Rattle.seize_model.specs.Waiting.Calls.{Response, end_slot, enter, first_refusal, flush, is_free, is_owned, leave, least_unused, model_link, not_registered, one_guard_less, part_if_alone, protect, refresh, set_guards, swap, take_number, unless, with_number_free, with_number_free_if, with_number_in_use}
+use Rattle.seize_model.specs.Waiting.Attempt.{StateAndGone, attempt, attempt_if_full, is_full, part, with_gone}
+use Rattle.seize_model.specs.Waiting.Calls.{Response, end_slot, enter, first_refusal, flush, give_back, given_back_if, is_free, is_owned, leave, least_unused, model_link, not_registered, one_guard_less, part_if_alone, protect, refresh, set_guards, swap, take_number, taking, unless, with_number_in_use}
 use Rattle.seize_model.specs.Waiting.Further.{Lighter, afterwards, further, put_by, with_further}
 use Rattle.seize_model.proofs.WaitingSets.FurtherValues.{afterwards-nil}
 use Rattle.seize_model.proofs.Simulation.Jobs.{settled_nothing}
-use Rattle.seize_model.proofs.Simulation.Numbers.{slot_taken}
 use Rattle.seize_model.proofs.Simulation.Plays.{both_same}
+use Rattle.seize_model.proofs.WaitingSets.Beside.{Steady, full_beside, ignores_of, settled_beside}
+use Rattle.seize_model.proofs.WaitingSets.Taken.{none_more, slot_taken}
 use Rattle.seize_book.specs.Adding.{private}
 use Rattle.seize_book.specs.Book.{after}
 use Rattle.seize_book.specs.Entry.{Deed, Entry}
@@ -52,16 +55,16 @@ use Rattle.seize_alone.proofs.Held.{guarded}
 
 -- Which events are made alone.
 
-pub entry_alone : {key key' : SlotKey} {pass pass' : Pass} {d : Deed} → IsSole pass.id → (adds : AddsDeed key pass key' pass' d) → MakesAlone pass pass' d.event adds.2.0.answer
-entry_alone {key} {key'} {pass} {pass'} {d} sole adds = record { sole = sole; same = adds.0; deed = d; is = refl; noted = adds.2.0; answers = refl }
+pub entry_alone : {key key' : SlotKey} {pass pass' : Pass} {d : Deed} → IsSole pass.id → (adds : AddsDeed key pass key' pass' d) → d.size ≡ pass.size → MakesAlone pass pass' d.event adds.2.0.answer
+entry_alone {key} {key'} {pass} {pass'} {d} sole adds sized = record { sole = sole; same = adds.0; deed = d; is = refl; sized = sized; noted = adds.2.0; answers = refl }
 
 pub made_alone : {numbers numbers' : NumbersKey} {key key' : SlotKey} {pass pass' : Pass} → IsSole pass.id → (makes : MakesSlot numbers key pass numbers' key' pass') → MakesAlone pass pass' (Take (slot_number key)) makes.noted.answer
-made_alone {numbers} {numbers'} {key} {key'} {pass} {pass'} sole makes = record { sole = sole; same = makes.same; deed = private pass (Take (slot_number key)); is = refl; noted = makes.noted; answers = refl }
+made_alone {numbers} {numbers'} {key} {key'} {pass} {pass'} sole makes = record { sole = sole; same = makes.same; deed = private pass (Take (slot_number key)); is = refl; sized = refl; noted = makes.noted; answers = refl }
 
 -- on a link
 module _ {link : SharedLink} {a : Activation} {pass pass' : Pass} {event : Event} {v : ℕ} (sole : IsSole pass.id) (t : ActsOnLink link a pass pass' event v) where
   on_link : (answer : Answer) → t.noted.answer ≡ answer → MakesAlone pass pass' event answer
-  on_link answer is = record { sole = sole; same = t.same; deed = private pass event; is = refl; noted = t.noted; answers = is }
+  on_link answer is = record { sole = sole; same = t.same; deed = private pass event; is = refl; sized = refl; noted = t.noted; answers = is }
 
 pub swapped_alone : {link : SharedLink} {a : Activation} {pass pass' : Pass} {s l v : ℕ} {number : Option ℕ} → IsSole pass.id → (t : ActsOnLink link a pass pass' (ExchangeLink s l (Swap number)) v)
     → MakesAlone pass pass' (ExchangeLink s l (Swap number)) (Link (machine.link_at (after (start pass.name) t.before) l))
@@ -89,13 +92,6 @@ module _ {T : Type 0} (st : waiting.ModelState T ℕ) (s : ℕ) where
   pub entered : (waiting.model_slot st s).kind ≡ Registered → ((waiting.model_slot st s).guards == 2 ^ 64 - 1) ≡ false → enter st s ≡ (Ok tt, (set_guards st s ((waiting.model_slot st s).guards + 1), []))
   entered kind few = λ i. unless (first_refusal (registered kind i) (if few i then Some TooManyGuards else None)) st (Ok tt, (set_guards st s ((waiting.model_slot st s).guards + 1), []))
 
-  pub ended : (waiting.model_slot st s).kind ≡ Registered → waiting.has_guard (waiting.model_slot st s) ≡ false → end_slot st s ≡ (Ok true, (with_number_free st s, []))
-  ended kind off = λ i. unless (registered kind i) st (if off i then (Ok false, (st, [])) else (Ok true, (with_number_free st s, [])))
-
-  -- a guard keeps the number
-  pub kept : (waiting.model_slot st s).kind ≡ Registered → waiting.has_guard (waiting.model_slot st s) ≡ true → end_slot st s ≡ (Ok false, (st, []))
-  kept kind on = λ i. unless (registered kind i) st (if on i then (Ok false, (st, [])) else (Ok true, (with_number_free st s, [])))
-
   pub protected : (l : ℕ) → is_free (waiting.model_slot st s).kind ≡ false → waiting.has_guard (waiting.model_slot st s) ≡ true → protect st s l ≡ (Ok (model_link st l), (st, []))
   protected l used on = ap (λ (r : Option Refusal). unless r st (Ok (model_link st l), (st, []))) (guarded st s used on)
 
@@ -103,6 +99,13 @@ module _ {T : Type 0} (st : waiting.ModelState T ℕ) (s : ℕ) where
   exchanged l new used on = ap (λ (r : Option Refusal). unless r st (Ok (model_link st l), (record st { links = set st.links l new }, []))) (guarded st s used on)
 
   module _ (puts : ℕ → T → List T) (weight : T → ℕ) where
+    pub ended : (waiting.model_slot st s).kind ≡ Registered → waiting.has_guard (waiting.model_slot st s) ≡ false → end_slot puts weight st s ≡ (Ok true, give_back puts weight st s)
+    ended kind off = λ i. unless (registered kind i) st (if off i then (Ok false, (st, [])) else (Ok true, give_back puts weight st s))
+
+    -- a guard keeps the number
+    pub kept : (waiting.model_slot st s).kind ≡ Registered → waiting.has_guard (waiting.model_slot st s) ≡ true → end_slot puts weight st s ≡ (Ok false, (st, []))
+    kept kind on = λ i. unless (registered kind i) st (if on i then (Ok false, (st, [])) else (Ok true, give_back puts weight st s))
+
     some_guards : (n : ℕ) → 2 ≤ n → (n == 1) ≡ false
     some_guards n many = grind arith
 
@@ -114,8 +117,8 @@ module _ {T : Type 0} (st : waiting.ModelState T ℕ) (s : ℕ) where
     left_beside kind many =
         let less : one_guard_less st s ≡ (set_guards st s ((waiting.model_slot st s).guards - 1), []) =
         ap (λ (b : Bool). if b then part (set_guards st s 0) s else (set_guards st s ((waiting.model_slot st s).guards - 1), [])) (some_guards (waiting.model_slot st s).guards many) in
-        ap (λ (r : Option Refusal). unless r st (Ok tt, with_number_free_if (is_owned (waiting.model_slot st s).kind) s (with_further puts weight s (one_guard_less st s)))) (guarded st s (ap is_free kind) (has_some (waiting.model_slot st s).guards many))
-        ∙ ap (λ (k : Kind). (Ok tt, with_number_free_if (is_owned k) s (with_further puts weight s (one_guard_less st s)))) kind
+        ap (λ (r : Option Refusal). unless r st (Ok tt, given_back_if puts weight (is_owned (waiting.model_slot st s).kind) s (with_further puts weight s (one_guard_less st s)))) (guarded st s (ap is_free kind) (has_some (waiting.model_slot st s).guards many))
+        ∙ ap (λ (k : Kind). (Ok tt, given_back_if puts weight (is_owned k) s (with_further puts weight s (one_guard_less st s)))) kind
         ∙ ap (λ (o : StateAndGone T ℕ). (Ok tt, with_further puts weight s o)) less ∙ ap (λ (o : StateAndGone T ℕ). (Ok tt, o)) (settled_nothing puts weight (set_guards st s ((waiting.model_slot st s).guards - 1)) s)
 
     pub refreshed_beside : (waiting.model_slot st s).kind ≡ Registered → 2 ≤ (waiting.model_slot st s).guards → refresh puts weight st s ≡ (Ok tt, (st, []))
@@ -124,15 +127,42 @@ module _ {T : Type 0} (st : waiting.ModelState T ℕ) (s : ℕ) where
         ∙ (λ i. (Ok tt, with_further puts weight s (if is_owned (kind i) || some_guards (waiting.model_slot st s).guards many i then part st s else (st, []))))
         ∙ ap (λ (o : StateAndGone T ℕ). (Ok tt, o)) (settled_nothing puts weight st s)
 
-pub taken : {T : Type 0} (st : waiting.ModelState T ℕ) (n : ℕ) (kind : Kind) (guards : ℕ) → n ≡ least_unused st.slots → (n == all_numbers) ≡ false → take_number st kind guards ≡ (Ok n, (with_number_in_use st n kind guards, []))
-taken {T} st n kind guards least few =
-    let said : ℕ → Bool → Response ℕ T ℕ = λ k b. if b then (Err NoNumbers, (st, [])) else (Ok k, (with_number_in_use st k kind guards, [])) in
-    ap (λ (k : ℕ). said k (k == all_numbers)) (sym least) ∙ ap (said n) few
+-- Taking a number.
 
--- the slot whose number was taken, before it enters
-pub taken_slot : {T : Type 0} (st : waiting.ModelState T ℕ) (n : ℕ) (kind : Kind) → n ≡ least_unused st.slots
-    → ((waiting.model_slot (with_number_in_use st n kind 0) n).kind ≡ kind) × (waiting.has_guard (waiting.model_slot (with_number_in_use st n kind 0) n) ≡ false) × (set_guards (with_number_in_use st n kind 0) n 1 ≡ with_number_in_use st n kind 1)
-taken_slot st n kind least = let own = slot_taken st n kind (n == length st.slots) least refl in (own.0, ap (λ (k : ℕ). not (k == 0)) own.1, own.2)
+module _ {T : Type 0} (st : waiting.ModelState T ℕ) (n : ℕ) (kind : Kind) (least : n ≡ least_unused st.slots) where
+  -- the slot whose number was taken
+  pub used_slot : waiting.model_slot (with_number_in_use st n kind) n ≡ record { kind = kind; guards = 0; batch = st.rest; order = [] }
+  used_slot = ap (λ (k : ℕ). waiting.model_slot (with_number_in_use st k kind) k) least ∙ slot_taken st kind
+
+  module _ (puts : ℕ → T → List T) (weight : T → ℕ) where
+    pub taken : (guards : ℕ) → (n == all_numbers) ≡ false → take_number puts weight st kind guards ≡ (Ok n, (set_guards (taking puts weight st n kind).0 n guards, (taking puts weight st n kind).1))
+    taken guards few =
+        let said : ℕ → Bool → Response ℕ T ℕ = λ k b. if b then (Err NoNumbers, (st, [])) else (Ok k, (set_guards (taking puts weight st k kind).0 k guards, (taking puts weight st k kind).1)) in
+        ap (λ (k : ℕ). said k (k == all_numbers)) (sym least) ∙ ap (said n) few
+
+    -- and once what was left was attempted, where it is a full batch
+    pub taken_slot : ((waiting.model_slot (taking puts weight st n kind).0 n).kind ≡ kind) × ((waiting.model_slot (taking puts weight st n kind).0 n).guards ≡ 0)
+    taken_slot = (stays (λ (slot : waiting.ModelSlot T ℕ). slot.kind) (λ slot batch order. refl), stays (λ (slot : waiting.ModelSlot T ℕ). slot.guards) (λ slot batch order. refl))
+      where
+        stays : {X : Type 0} (g : waiting.ModelSlot T ℕ → X) → Steady g → g (waiting.model_slot (taking puts weight st n kind).0 n) ≡ g (record { kind = kind; guards = 0; batch = st.rest; order = [] })
+        stays g steady =
+            settled_beside puts weight (λ (k : waiting.ModelState T ℕ). g (waiting.model_slot k n)) (ignores_of g steady n) n (attempt_if_full (with_number_in_use st n kind) n)
+            ∙ full_beside (λ (k : waiting.ModelState T ℕ). g (waiting.model_slot k n)) (ignores_of g steady n) (with_number_in_use st n kind) n ∙ ap g used_slot
+
+    -- it has no guard, so it stays the same with none
+    pub taken_as : (set_guards (taking puts weight st n kind).0 n 0, (taking puts weight st n kind).1) ≡ taking puts weight st n kind
+    taken_as = ap (λ (k : waiting.ModelState T ℕ). (k, (taking puts weight st n kind).1)) (none_more (taking puts weight st n kind).0 n taken_slot.1)
+
+    full_so : is_full st.size (waiting.model_slot (with_number_in_use st n kind) n).batch ≡ is_full st.size st.rest
+    full_so = ap (λ (slot : waiting.ModelSlot T ℕ). is_full st.size slot.batch) used_slot
+
+    pub taking_short : is_full st.size st.rest ≡ false → taking puts weight st n kind ≡ (with_number_in_use st n kind, [])
+    taking_short short =
+        ap (λ (b : Bool). with_further puts weight n (if b then attempt (with_number_in_use st n kind) n else (with_number_in_use st n kind, []))) (full_so ∙ short)
+        ∙ settled_nothing puts weight (with_number_in_use st n kind) n
+
+    pub taking_full : is_full st.size st.rest ≡ true → taking puts weight st n kind ≡ with_further puts weight n (attempt (with_number_in_use st n kind) n)
+    taking_full full = ap (λ (b : Bool). with_further puts weight n (if b then attempt (with_number_in_use st n kind) n else (with_number_in_use st n kind, []))) (full_so ∙ full)
 
 -- Where a reclaimer puts nothing, nothing is done besides.
 

@@ -1,12 +1,13 @@
 -- Steps of single slots, slot after slot, are a reclaim of all.
 --     from f k xs, flat_from g k xs     f of each element from the k-th on;  what g makes of these
---     freed slot, emptied kind     a slot that parted and gave its number back;  one that left without a batch
+--     off_slot slot, emptied kind     a slot that parted, without a guard;  one that has no values either
 --     turn_parts, parted_all       a slot's first step is a parting, and what the slots are after all of them
 --     batch_goes, batches_go       a slot's batch goes, and all batches go
+--     rest_goes                    what was left goes
 --     numbers_go                   the numbers go back, last first
 --     parted_clean                 partings leave no values in a retired batch that waits for no slot
 --     in_turn_is                   all steps, by the slots after the partings
-use Rattle.std.proofs.Common.{◌≡◌, ◌≢◌, ℕ, zero, suc, ◌+◌, ◌-◌, ◌<◌, ◌≤◌, ◌==◌, ◌||◌, Bool, true, false, not, if◌then◌else◌, nat_lt, List, [], ◌∷◌, ◌++◌, length, map, get_or, set, replicate, reverse, refl, sym, ◌∙◌, ap, subst, ◌⊎◌, inl, inr, arith}
+use Rattle.std.proofs.Common.{◌≡◌, ◌≢◌, ℕ, zero, suc, ◌+◌, ◌-◌, ◌<◌, ◌≤◌, ◌==◌, ◌||◌, Bool, true, false, not, cond, if◌then◌else◌, nat_lt, List, [], ◌∷◌, ◌++◌, length, map, get_or, set, replicate, reverse, refl, sym, ◌∙◌, ap, subst, ◌⊎◌, inl, inr, arith}
 use Rattle.std.specs.List.{count_by, flat_map, list_any, range_with_len}
 use mathlib.Core.List.{reverse-cons}
 use Rattle.std.proofs.lemmas.List.{append-nil, append_assoc, get_or-set_other, get_or-set_same, length-map, length-set, set-get_or, set-set}
@@ -15,8 +16,8 @@ use Rattle.std.proofs.lemmas.Grind.{common_steps}
 use Rattle.seize_model.specs.declared.kind.Kind.{Kind}
 use Rattle.seize_model.specs.declared.kind.Kind.TheVariants.{Free, Owned, Registered}
 use Rattle.seize_model.specs.Waiting.State.{ModelSlot, ModelState, has_guard, is_kept, unmade_slot, retired_at, set_slot, model_slot, waits_for}
-use Rattle.seize_model.specs.Waiting.Attempt.{StateAndGone, active_slots, attempt, part, release, release_all, wait_if_active, with_gone}
-use Rattle.seize_model.specs.Waiting.Calls.{is_free, one_guard_less, part_all, set_guards, with_number_free, with_number_free_if, without_batch}
+use Rattle.seize_model.specs.Waiting.Attempt.{StateAndGone, active_slots, attempt, attempt_if_full, is_full, part, release, release_all, wait_if_active, with_batch_retired, with_gone}
+use Rattle.seize_model.specs.Waiting.Calls.{is_free, least_unused, one_guard_less, part_all, set_guards, with_number_free, with_number_in_use}
 use Rattle.seize_model.specs.Waiting.Further.{further, gone_from}
 use Rattle.seize_machine.specs.Machine.State.{has}
 use Rattle.seize_machine.proofs.Facts.{is_true}
@@ -24,10 +25,10 @@ use Rattle.seize_machine.proofs.Invariants.Kept.{at_set}
 use Rattle.seize_model.proofs.Cases.{or_same}
 use Rattle.seize_model.proofs.Counts.{any_counts, count_same}
 use Rattle.seize_model.proofs.WaitingSets.GoneBatches.{IsClean}
-use Rattle.seize_model.proofs.WaitingSets.LinkCounts.{releases_beside}
+use Rattle.seize_model.proofs.WaitingSets.Beside.{releases_beside}
 use Rattle.seize_alone.specs.Holding.{with_gone_below, with_order_from}
-use Rattle.seize_alone.specs.Reclaiming.{IsOrderly, ReclaimsInTurn, batch_in_turn, batches_in_turn, entered_as, in_turn, numbers_in_turn, part_in_turn, parts_in_turn}
-use Rattle.seize_alone.proofs.Mapped.{any_map, set_map}
+use Rattle.seize_alone.specs.Reclaiming.{IsOrderly, ReclaimsInTurn, batch_in_turn, batches_in_turn, in_turn, kept_in_turn, number_in_turn, numbers_in_turn, part_in_turn, parts_in_turn, rest_in_turn}
+use Rattle.seize_alone.proofs.Mapped.{any_map, get_map, set_map}
 
 -- Element after element.
 
@@ -50,6 +51,13 @@ from_before f zero (x ∷ xs) d h = refl
 from_before f (suc k) [] d h = absurd (omega (arith, h))
 from_before f (suc k) (x ∷ xs) d h = ap (λ rest. x ∷ rest) (from_before f k xs d (omega (arith, h)))
 
+from_at : {X : Type 0} (f : X → X) (k : ℕ) (xs : List X) (d : X) → get_or (from f (suc k) xs) k d ≡ get_or xs k d
+unfolding from
+from_at f zero [] d = refl
+from_at f zero (x ∷ xs) d = refl
+from_at f (suc k) [] d = refl
+from_at f (suc k) (x ∷ xs) d = from_at f k xs d
+
 from_end : {X : Type 0} (f : X → X) (k : ℕ) (xs : List X) → length xs ≤ k → from f k xs ≡ xs
 unfolding from
 from_end f zero [] h = refl
@@ -62,14 +70,14 @@ slot_order slot = slot.order
 
 -- The first steps: parting.
 
-is_free_kind : (k : Kind) → is_free k ≡ true → k ≡ Free
+pub is_free_kind : (k : Kind) → is_free k ≡ true → k ≡ Free
 is_free_kind Free e = refl
 is_free_kind Registered e = absurd (cc)
 is_free_kind Owned e = absurd (cc)
 
 module _ {T R : Type 0} where
-  abbrev pub freed : ModelSlot T R → ModelSlot T R
-  freed slot = record { kind = Free; guards = 0; batch = slot.batch; order = [] }
+  abbrev pub off_slot : ModelSlot T R → ModelSlot T R
+  off_slot slot = record slot { guards = 0; order = [] }
 
   kept_by : (b : ℕ) (xs ys : List (ModelSlot T R)) → map (λ (slot : ModelSlot T R). slot.order) xs ≡ map (λ (slot : ModelSlot T R). slot.order) ys → list_any (waits_for b) xs ≡ list_any (waits_for b) ys
   kept_by b xs ys same =
@@ -97,13 +105,6 @@ module _ {T R : Type 0} where
       ap (λ (o : StateAndGone T R). with_gone o.1 (release_all o.0 bs)) (release_with st slots b same)
       ∙ ap (with_gone (release st b).1) (released_with bs (release st b).0 slots (same ∙ ap (map (λ (slot : ModelSlot T R). slot.order)) (sym (release_slots st (b ∷ [])))))
 
-  -- a number goes back, of a slot just written
-  free_set : (st : ModelState T R) (xs : List (ModelSlot T R)) (s : ℕ) (slot : ModelSlot T R) → s < length xs
-      → with_number_free (record st { slots = set xs s slot }) s ≡ record st { slots = set xs s (record slot { kind = Free; guards = 0 }) }
-  free_set st xs s slot h =
-      ap (λ (x : ModelSlot T R). record st { slots = set (set xs s slot) s (record x { kind = Free; guards = 0 }) }) (get_or-set_same xs s slot unmade_slot h)
-      ∙ ap (λ (l : List (ModelSlot T R)). record st { slots = l }) (set-set xs s slot (record slot { kind = Free; guards = 0 }))
-
   -- what is written over what was written
   set_again : (st : ModelState T R) (s : ℕ) (slot next : ModelSlot T R) → set_slot (set_slot st s slot) s next ≡ set_slot st s next
   set_again st s slot next = ap (λ (l : List (ModelSlot T R)). record st { slots = l }) (set-set st.slots s slot next)
@@ -118,12 +119,13 @@ module _ {T R : Type 0} where
       ∙ ap (λ (k : ModelState T R). release_all k slot.order) (set_again st s (record slot { guards = 0 }) (record slot { guards = 0; order = [] }))
 
   abbrev pub Parted : ModelState T R → ℕ → StateAndGone T R
-  Parted st s = (with_number_free (part st s).0 s, (part st s).1)
+  Parted st s = (set_guards (part st s).0 s 0, (part st s).1)
 
-  parted_slots : (st : ModelState T R) (s : ℕ) → s < length st.slots → with_number_free (part st s).0 s ≡ record (part st s).0 { slots = set st.slots s (freed (model_slot st s)) }
+  parted_slots : (st : ModelState T R) (s : ℕ) → s < length st.slots → set_guards (part st s).0 s 0 ≡ record (part st s).0 { slots = set st.slots s (off_slot (model_slot st s)) }
   parted_slots st s h =
-      ap (λ (l : List (ModelSlot T R)). with_number_free (record (part st s).0 { slots = l }) s) (release_slots (set_slot st s (record (model_slot st s) { order = [] })) (model_slot st s).order)
-      ∙ free_set (part st s).0 st.slots s (record (model_slot st s) { order = [] }) h
+      ap (λ (l : List (ModelSlot T R)). set_guards (record (part st s).0 { slots = l }) s 0) (release_slots (set_slot st s (record (model_slot st s) { order = [] })) (model_slot st s).order)
+      ∙ ap (λ (x : ModelSlot T R). record (part st s).0 { slots = set (set st.slots s (record (model_slot st s) { order = [] })) s (record x { guards = 0 }) }) (get_or-set_same st.slots s (record (model_slot st s) { order = [] }) unmade_slot h)
+      ∙ ap (λ (l : List (ModelSlot T R)). record (part st s).0 { slots = l }) (set-set st.slots s (record (model_slot st s) { order = [] }) (off_slot (model_slot st s)))
 
   -- nothing waits for the slot
   parts_nothing : (st : ModelState T R) (s : ℕ) → (model_slot st s).order ≡ [] → part st s ≡ (st, [])
@@ -132,20 +134,14 @@ module _ {T R : Type 0} where
       ∙ ap (λ (o : List ℕ). (set_slot st s (record (model_slot st s) { order = o }), [])) (sym none)
       ∙ ap (λ (l : List (ModelSlot T R)). (record st { slots = l }, [])) (set-get_or st.slots s unmade_slot)
 
-  frees_nothing : (st : ModelState T R) (s : ℕ) → (model_slot st s).kind ≡ Free → (model_slot st s).guards ≡ 0 → with_number_free st s ≡ st
-  frees_nothing st s kind guards =
-      (λ i. set_slot st s (record (model_slot st s) { kind = sym kind i; guards = sym guards i }))
+  none_more : (st : ModelState T R) (s : ℕ) → (model_slot st s).guards ≡ 0 → set_guards st s 0 ≡ st
+  none_more st s guards =
+      (λ i. set_slot st s (record (model_slot st s) { guards = sym guards i }))
       ∙ ap (λ (l : List (ModelSlot T R)). record st { slots = l }) (set-get_or st.slots s unmade_slot)
 
-  active_parts : (st : ModelState T R) (s : ℕ) → s < length st.slots
-      → (with_number_free (one_guard_less (set_guards st s 1) s).0 s, (one_guard_less (set_guards st s 1) s).1) ≡ Parted st s
-  active_parts st s h =
-      ap (λ (o : StateAndGone T R). (with_number_free o.0 s, o.1)) less ∙ (λ i. (free_set (part st s).0 st.slots s (record slot { guards = 0; order = [] }) h i, (part st s).1))
-      ∙ (λ i. (sym (parted_slots st s h) i, (part st s).1))
+  active_parts : (st : ModelState T R) (s : ℕ) → s < length st.slots → one_guard_less (set_guards st s 1) s ≡ Parted st s
+  active_parts st s h = less ∙ (λ i. (sym (parted_slots st s h) i, (part st s).1))
     where
-      slot : ModelSlot T R
-      slot = model_slot st s
-
       orders : map (λ (x : ModelSlot T R). x.order) (set st.slots s (record (model_slot st s) { guards = 0; order = [] })) ≡ map (λ (x : ModelSlot T R). x.order) (set st.slots s (record (model_slot st s) { order = [] }))
       orders = set_map (λ (x : ModelSlot T R). x.order) st.slots s (record (model_slot st s) { guards = 0; order = [] }) ∙ sym (set_map (λ (x : ModelSlot T R). x.order) st.slots s (record (model_slot st s) { order = [] }))
 
@@ -155,10 +151,10 @@ module _ {T R : Type 0} where
           ∙ ap (λ (k : ModelState T R). release_all k (model_slot st s).order) (set_again st s (record (model_slot st s) { guards = 1 }) (record (model_slot st s) { guards = 0; order = [] }))
           ∙ released_with (model_slot st s).order (set_slot st s (record (model_slot st s) { order = [] })) (set st.slots s (record (model_slot st s) { guards = 0; order = [] })) orders
 
-  -- A slot's own step is a parting, after which its number goes back.
+  -- A slot's own step is a parting.
 
   abbrev pub IsSound : ModelSlot T R → Type 0
-  IsSound slot = (is_free slot.kind ≡ true → slot.guards ≡ 0) × (has_guard slot ≡ false → slot.order ≡ [])
+  IsSound slot = (is_free slot.kind ≡ true → slot ≡ unmade_slot) × (has_guard slot ≡ false → slot.order ≡ [])
 
   abbrev AreSound : List (ModelSlot T R) → Type 0
   AreSound xs = (s : ℕ) → IsSound (get_or xs s unmade_slot)
@@ -166,44 +162,45 @@ module _ {T R : Type 0} where
   pub turn_parts : (st : ModelState T R) (s : ℕ) → s < length st.slots → IsSound (model_slot st s) → part_in_turn st s ≡ Parted st s
   turn_parts st s h sound = go (is_free (model_slot st s).kind) refl (has_guard (model_slot st s)) refl
     where
-      nothing : (model_slot st s).order ≡ [] → Parted st s ≡ (with_number_free st s, [])
-      nothing none = ap (λ (o : StateAndGone T R). (with_number_free o.0 s, o.1)) (parts_nothing st s none)
+      nothing : (model_slot st s).guards ≡ 0 → (model_slot st s).order ≡ [] → (st, []) ≡ Parted st s
+      nothing off none = sym (ap (λ (o : StateAndGone T R). (set_guards o.0 s 0, o.1)) (parts_nothing st s none) ∙ ap (λ (k : ModelState T R). (k, [])) (none_more st s off))
+
+      no_guards : (k : ℕ) → not (k == 0) ≡ false → k ≡ 0
+      no_guards k e = grind arith
 
       go : (f : Bool) → is_free (model_slot st s).kind ≡ f → (a : Bool) → has_guard (model_slot st s) ≡ a
-          → ◌≡◌ {A = StateAndGone T R} (if f then (st, []) else with_number_free_if true s (if a then one_guard_less (set_guards st s 1) s else (st, []))) (Parted st s)
-      go true f a e =
-          sym (nothing (sound.1 (ap (λ (n : ℕ). not (n == 0)) (sound.0 f)))
-          ∙ ap (λ (k : ModelState T R). (k, [])) (frees_nothing st s (is_free_kind (model_slot st s).kind f) (sound.0 f)))
+          → ◌≡◌ {A = StateAndGone T R} (if f then (st, []) else (if a then one_guard_less (set_guards st s 1) s else (st, []))) (Parted st s)
+      go true f a e = nothing (ap (λ (x : ModelSlot T R). x.guards) (sound.0 f)) (ap (λ (x : ModelSlot T R). x.order) (sound.0 f))
       go false f true e = active_parts st s h
-      go false f false e = sym (nothing (sound.1 e))
+      go false f false e = nothing (no_guards (model_slot st s).guards e) (sound.1 e)
 
-  pub next_slots : (st : ModelState T R) (s : ℕ) → s < length st.slots → (with_number_free (part st s).0 s).slots ≡ set st.slots s (freed (model_slot st s))
+  pub next_slots : (st : ModelState T R) (s : ℕ) → s < length st.slots → (set_guards (part st s).0 s 0).slots ≡ set st.slots s (off_slot (model_slot st s))
   next_slots st s h = ap (λ (k : ModelState T R). k.slots) (parted_slots st s h)
 
-  sound_next : (st : ModelState T R) (s : ℕ) → s < length st.slots → AreSound st.slots → AreSound (with_number_free (part st s).0 s).slots
+  sound_next : (st : ModelState T R) (s : ℕ) → s < length st.slots → AreSound st.slots → AreSound (set_guards (part st s).0 s 0).slots
   sound_next st s h sound =
       subst (λ (l : List (ModelSlot T R)). AreSound l) (sym (next_slots st s h))
-      (λ j. at_set (λ (x : ModelSlot T R). IsSound x) st.slots s j (freed (model_slot st s)) unmade_slot (λ same within. (λ e. refl, λ e. refl)) (sound j))
+      (λ j. at_set (λ (x : ModelSlot T R). IsSound x) st.slots s j (off_slot (model_slot st s)) unmade_slot (λ same within. (λ e. ap (λ (x : ModelSlot T R). off_slot x) ((sound s).0 e), λ e. refl)) (sound j))
 
   parts_are : (n k : ℕ) (st : ModelState T R) → k + n ≡ length st.slots → AreSound st.slots → parts_in_turn st (range_with_len k n) ≡ part_all st (range_with_len k n)
   parts_are zero k st h sound = refl
   parts_are (suc n) k st h sound =
       let within : k < length st.slots = omega (arith, h) in
-      let long : k + 1 + n ≡ length (with_number_free (part st k).0 k).slots =
-      omega (arith, h, ap (λ (l : List (ModelSlot T R)). length l) (next_slots st k within), length-set st.slots k (freed (model_slot st k))) in
+      let long : k + 1 + n ≡ length (set_guards (part st k).0 k 0).slots =
+      omega (arith, h, ap (λ (l : List (ModelSlot T R)). length l) (next_slots st k within), length-set st.slots k (off_slot (model_slot st k))) in
       ap (λ (o : StateAndGone T R). with_gone o.1 (parts_in_turn o.0 (range_with_len (k + 1) n))) (turn_parts st k within (sound k))
-      ∙ ap (λ (o : StateAndGone T R). with_gone (part st k).1 o) (parts_are n (k + 1) (with_number_free (part st k).0 k) long (sound_next st k within sound))
+      ∙ ap (λ (o : StateAndGone T R). with_gone (part st k).1 o) (parts_are n (k + 1) (set_guards (part st k).0 k 0) long (sound_next st k within sound))
 
-  parted_are : (n k : ℕ) (st : ModelState T R) → k + n ≡ length st.slots → (part_all st (range_with_len k n)).0.slots ≡ from (λ (slot : ModelSlot T R). freed slot) k st.slots
-  parted_are zero k st h = sym (from_end (λ (slot : ModelSlot T R). freed slot) k st.slots (omega (arith, h)))
+  parted_are : (n k : ℕ) (st : ModelState T R) → k + n ≡ length st.slots → (part_all st (range_with_len k n)).0.slots ≡ from (λ (slot : ModelSlot T R). off_slot slot) k st.slots
+  parted_are zero k st h = sym (from_end (λ (slot : ModelSlot T R). off_slot slot) k st.slots (omega (arith, h)))
   parted_are (suc n) k st h =
       let within : k < length st.slots = omega (arith, h) in
-      let long : k + 1 + n ≡ length (with_number_free (part st k).0 k).slots =
-      omega (arith, h, ap (λ (l : List (ModelSlot T R)). length l) (next_slots st k within), length-set st.slots k (freed (model_slot st k))) in
+      let long : k + 1 + n ≡ length (set_guards (part st k).0 k 0).slots =
+      omega (arith, h, ap (λ (l : List (ModelSlot T R)). length l) (next_slots st k within), length-set st.slots k (off_slot (model_slot st k))) in
       let one : k + 1 ≡ suc k = omega arith in
-      parted_are n (k + 1) (with_number_free (part st k).0 k) long
-      ∙ (λ i. from (λ (slot : ModelSlot T R). freed slot) (one i) (next_slots st k within i))
-      ∙ from_next (λ (slot : ModelSlot T R). freed slot) k st.slots unmade_slot within
+      parted_are n (k + 1) (set_guards (part st k).0 k 0) long
+      ∙ (λ i. from (λ (slot : ModelSlot T R). off_slot slot) (one i) (next_slots st k within i))
+      ∙ from_next (λ (slot : ModelSlot T R). off_slot slot) k st.slots unmade_slot within
 
 -- The second steps: the batches.
 
@@ -266,9 +263,9 @@ few : (n : ℕ) → ((suc n == 0) || nat_lt (suc n) 1) ≡ false
 few n = grind arith
 
 module _ {T R : Type 0} where
-  -- no slot is active, and none is waited for
+  -- no slot is active, no batch waits for one, and a free one is as one that was never made
   abbrev pub AreQuiet : List (ModelSlot T R) → Type 0
-  AreQuiet xs = (s : ℕ) → (has_guard (get_or xs s unmade_slot) ≡ false) × (slot_order (get_or xs s unmade_slot) ≡ [])
+  AreQuiet xs = (s : ℕ) → (has_guard (get_or xs s unmade_slot) ≡ false) × (slot_order (get_or xs s unmade_slot) ≡ []) × (is_free (get_or xs s unmade_slot).kind ≡ true → get_or xs s unmade_slot ≡ unmade_slot)
 
   abbrev pub emptied : Kind → ModelSlot T R
   emptied kind = record { kind = kind; guards = 0; batch = []; order = [] }
@@ -281,9 +278,15 @@ module _ {T R : Type 0} where
   left_of [] = []
   left_of (v ∷ vs) = [] ∷ []
 
+  emptied_free : (kind : Kind) → is_free kind ≡ true → emptied kind ≡ unmade_slot
+  emptied_free kind free = ap (λ (k : Kind). emptied k) (is_free_kind kind free)
+
+  quiet_to : (xs : List (ModelSlot T R)) (s : ℕ) (y : ModelSlot T R) → (has_guard y ≡ false) × (slot_order y ≡ []) × (is_free y.kind ≡ true → y ≡ unmade_slot) → AreQuiet xs → AreQuiet (set xs s y)
+  quiet_to xs s y own quiet j =
+      at_set (λ (x : ModelSlot T R). (has_guard x ≡ false) × (slot_order x ≡ []) × (is_free x.kind ≡ true → x ≡ unmade_slot)) xs s j y unmade_slot (λ same within. own) (quiet j)
+
   quiet_set : (xs : List (ModelSlot T R)) (s : ℕ) (kind : Kind) → AreQuiet xs → AreQuiet (set xs s (emptied kind))
-  quiet_set xs s kind quiet j =
-      at_set (λ (x : ModelSlot T R). (has_guard x ≡ false) × (slot_order x ≡ [])) xs s j (emptied kind) unmade_slot (λ same within. (refl, refl)) (quiet j)
+  quiet_set xs s kind quiet = quiet_to xs s (emptied kind) (refl, refl, emptied_free kind) quiet
 
   waits_nothing : (b : ℕ) (xs : List (ModelSlot T R)) → AreQuiet xs → map (wait_if_active b) xs ≡ xs
   waits_nothing b [] quiet = refl
@@ -293,19 +296,15 @@ module _ {T R : Type 0} where
   kept_for_none : (b : ℕ) (xs : List (ModelSlot T R)) → AreQuiet xs → list_any (waits_for b) xs ≡ false
   kept_for_none b xs quiet = any_none (waits_for b) xs unmade_slot (λ s. ap (λ (o : List ℕ). list_any (λ x. x == b) o) (quiet s).1)
 
-  module _ (kind : Kind) (st : ModelState T R) (s : ℕ) (h : s < length st.slots) (quiet : AreQuiet st.slots) where
+  module _ (st : ModelState T R) (s : ℕ) (h : s < length st.slots) (quiet : AreQuiet st.slots) where
+    abbrev kind : Kind
+    kind = (model_slot st s).kind
+
     abbrev begun : List (T × R) → ModelState T R
     begun vs = set_slot st s (holding kind vs)
 
-    enters : entered_as kind st s ≡ begun (model_slot st s).batch
-    enters =
-        let made : ModelState T R = record st { slots = st.slots ++ record { kind = kind; guards = 0; batch = []; order = [] } ∷ [] } in
-        let there : (s == length st.slots) ≡ false = grind (arith, h) in
-        let used : ModelSlot T R = record (model_slot st s) { kind = kind; guards = 0 } in
-        ap (λ (b : Bool). set_guards (if b then made else set_slot st s used) s 1) there
-        ∙ ap (λ (x : ModelSlot T R). set_slot (set_slot st s used) s (record x { guards = 1 })) (get_or-set_same st.slots s used unmade_slot h)
-        ∙ set_again st s used (record used { guards = 1 })
-        ∙ ap (λ (o : List ℕ). set_slot st s (record used { guards = 1; order = o })) (quiet s).1
+    enters : set_guards st s 1 ≡ begun (model_slot st s).batch
+    enters = ap (λ (o : List ℕ). set_slot st s (record (model_slot st s) { guards = 1; order = o })) (quiet s).1
 
     abbrev pub ended : List (T × R) → StateAndGone T R
     ended vs = (record st { slots = set st.slots s (emptied kind); retired = st.retired ++ left_of vs }, vs)
@@ -367,54 +366,184 @@ module _ {T R : Type 0} where
     in_turn_from [] = ap leaves (tries_own []) ∙ leaves_begun
     in_turn_from (v ∷ vs) = ap leaves (tries_some v vs) ∙ leaves_waited v vs
 
-    pub batch_goes : batch_in_turn kind st s ≡ ended (model_slot st s).batch
-    batch_goes = ap (λ (k : ModelState T R). leaves (attempt k s)) enters ∙ in_turn_from (model_slot st s).batch
+    -- a free slot has no batch
+    free_ends : is_free (model_slot st s).kind ≡ true → (st, []) ≡ ended (model_slot st s).batch
+    free_ends free =
+        let is : model_slot st s ≡ unmade_slot = (quiet s).2 free in
+        let slots : set st.slots s (emptied (model_slot st s).kind) ≡ st.slots =
+        ap (λ (x : ModelSlot T R). set st.slots s (emptied x.kind)) is ∙ ap (λ (x : ModelSlot T R). set st.slots s x) (sym is) ∙ set-get_or st.slots s unmade_slot in
+        let retired : st.retired ++ left_of (model_slot st s).batch ≡ st.retired = ap (λ (x : ModelSlot T R). st.retired ++ left_of x.batch) is ∙ append-nil st.retired in
+        λ i. (record st { slots = sym slots i; retired = sym retired i }, sym (ap (λ (x : ModelSlot T R). x.batch) is) i)
 
-  batches_go : (kind : Kind) (n k : ℕ) (st : ModelState T R) → k + n ≡ length st.slots → AreQuiet st.slots
-      → batches_in_turn kind st (range_with_len k n)
-      ≡ (record st { slots = from (λ (slot : ModelSlot T R). emptied kind) k st.slots; retired = st.retired ++ flat_from (λ (slot : ModelSlot T R). left_of slot.batch) k st.slots }, flat_from (λ (slot : ModelSlot T R). slot.batch) k st.slots)
-  batches_go kind zero k st h quiet =
+    pub batch_goes : batch_in_turn st s ≡ ended (model_slot st s).batch
+    batch_goes = go (is_free (model_slot st s).kind) refl
+      where
+        go : (f : Bool) → is_free (model_slot st s).kind ≡ f → ◌≡◌ {A = StateAndGone T R} (if f then (st, []) else leaves (attempt (set_guards st s 1) s)) (ended (model_slot st s).batch)
+        go true free = free_ends free
+        go false used = ap (λ (k : ModelState T R). leaves (attempt k s)) enters ∙ in_turn_from (model_slot st s).batch
+
+  batches_go : (n k : ℕ) (st : ModelState T R) → k + n ≡ length st.slots → AreQuiet st.slots
+      → batches_in_turn st (range_with_len k n)
+      ≡ (record st { slots = from (λ (slot : ModelSlot T R). emptied slot.kind) k st.slots; retired = st.retired ++ flat_from (λ (slot : ModelSlot T R). left_of slot.batch) k st.slots }, flat_from (λ (slot : ModelSlot T R). slot.batch) k st.slots)
+  batches_go zero k st h quiet =
       let past : length st.slots ≤ k = omega (arith, h) in
       λ i. (
         record st {
-          slots = sym (from_end (λ (slot : ModelSlot T R). emptied kind) k st.slots past) i;
+          slots = sym (from_end (λ (slot : ModelSlot T R). emptied slot.kind) k st.slots past) i;
           retired = (sym (append-nil st.retired) ∙ ap (λ (l : List (List (T × R))). st.retired ++ l) (sym (flat_end (λ (slot : ModelSlot T R). left_of slot.batch) k st.slots past))) i;
         },
         sym (flat_end (λ (slot : ModelSlot T R). slot.batch) k st.slots past) i,
       )
-  batches_go kind (suc n) k st h quiet =
+  batches_go (suc n) k st h quiet =
       let within : k < length st.slots = omega (arith, h) in
-      let later : ModelState T R = record st { slots = set st.slots k (emptied kind); retired = st.retired ++ left_of (model_slot st k).batch } in
+      let later : ModelState T R = record st { slots = set st.slots k (emptied (model_slot st k).kind); retired = st.retired ++ left_of (model_slot st k).batch } in
       let batch : List (T × R) = (model_slot st k).batch in
-      let long : k + 1 + n ≡ length (set st.slots k (emptied kind)) = omega (arith, h, length-set st.slots k (emptied kind)) in
+      let long : k + 1 + n ≡ length (set st.slots k (emptied (model_slot st k).kind)) = omega (arith, h, length-set st.slots k (emptied (model_slot st k).kind)) in
       let one : k + 1 ≡ suc k = omega arith in
-      ap (λ (o : StateAndGone T R). with_gone o.1 (batches_in_turn kind o.0 (range_with_len (k + 1) n))) (batch_goes kind st k within quiet)
-      ∙ ap (with_gone batch) (batches_go kind n (k + 1) later long (quiet_set st.slots k kind quiet))
-      ∙ ap (λ (m : ℕ). (record st { slots = from (λ (slot : ModelSlot T R). emptied kind) m later.slots; retired = later.retired ++ flat_from (λ (slot : ModelSlot T R). left_of slot.batch) m later.slots }, batch ++ flat_from (λ (slot : ModelSlot T R). slot.batch) m later.slots)) one
+      ap (λ (o : StateAndGone T R). with_gone o.1 (batches_in_turn o.0 (range_with_len (k + 1) n))) (batch_goes st k within quiet)
+      ∙ ap (with_gone batch) (batches_go n (k + 1) later long (quiet_set st.slots k (model_slot st k).kind quiet))
+      ∙ ap (λ (m : ℕ). (record st { slots = from (λ (slot : ModelSlot T R). emptied slot.kind) m later.slots; retired = later.retired ++ flat_from (λ (slot : ModelSlot T R). left_of slot.batch) m later.slots }, batch ++ flat_from (λ (slot : ModelSlot T R). slot.batch) m later.slots)) one
       ∙ (λ i. (
         record st {
-          slots = from_next (λ (slot : ModelSlot T R). emptied kind) k st.slots unmade_slot within i;
+          slots = from_next (λ (slot : ModelSlot T R). emptied slot.kind) k st.slots unmade_slot within i;
           retired = (append_assoc st.retired (left_of batch) (flat_from (λ (slot : ModelSlot T R). left_of slot.batch) (suc k) later.slots)
-              ∙ ap (λ (l : List (List (T × R))). st.retired ++ l) (flat_next (λ (slot : ModelSlot T R). left_of slot.batch) k st.slots (emptied kind) unmade_slot within)) i;
+              ∙ ap (λ (l : List (List (T × R))). st.retired ++ l) (flat_next (λ (slot : ModelSlot T R). left_of slot.batch) k st.slots (emptied (model_slot st k).kind) unmade_slot within)) i;
         },
-        flat_next (λ (slot : ModelSlot T R). slot.batch) k st.slots (emptied kind) unmade_slot within i,
+        flat_next (λ (slot : ModelSlot T R). slot.batch) k st.slots (emptied (model_slot st k).kind) unmade_slot within i,
       ))
 
-  -- The third steps: the numbers.
+  -- The third step: what was left.
+
+  -- where no slot is active, what is attempted is gone at once
+  quiet_attempt : (st : ModelState T R) (s : ℕ) (slot : ModelSlot T R) (v : T × R) (vs : List (T × R)) → s < length st.slots → AreQuiet st.slots → model_slot st s ≡ slot → slot.batch ≡ v ∷ vs
+      → attempt st s ≡ (record (set_slot st s (record slot { batch = [] })) { retired = st.retired ++ [] ∷ [] }, v ∷ vs)
+  quiet_attempt st s slot v vs h quiet own batch =
+      let none : active_slots st ≡ 0 = count_none has_guard st.slots unmade_slot (λ i. (quiet i).0) in
+      let go : Bool → StateAndGone T R = λ b. if b then (st, []) else release (with_batch_retired st s) (length st.retired) in
+      let waiting : ModelState T R = record (set_slot st s (record slot { batch = [] })) { retired = st.retired ++ slot.batch ∷ [] } in
+      let is_quiet : AreQuiet (set st.slots s (record slot { batch = [] })) =
+      quiet_to st.slots s (record slot { batch = [] })
+      (subst (λ (x : ModelSlot T R). (has_guard x ≡ false) × (slot_order x ≡ []) × (is_free x.kind ≡ true → record x { batch = [] } ≡ unmade_slot)) own
+      ((quiet s).0, (quiet s).1, λ free. ap (λ (x : ModelSlot T R). record x { batch = [] }) ((quiet s).2 free))) quiet in
+      let away : Bool → StateAndGone T R = λ b. if b then (waiting, []) else (record waiting { retired = set waiting.retired (length st.retired) [] }, retired_at waiting (length st.retired)) in
+      ap go
+      (ap (λ (x : ModelSlot T R). (length x.batch == 0) || nat_lt (length x.batch) (active_slots st)) own ∙ ap (λ (l : List (T × R)). (length l == 0) || nat_lt (length l) (active_slots st)) batch
+      ∙ ap (λ (n : ℕ). (suc (length vs) == 0) || nat_lt (suc (length vs)) n) none ∙ goes (length vs))
+      ∙ ap (λ (x : ModelSlot T R). release (record st { slots = map (wait_if_active (length st.retired)) (set st.slots s (record x { batch = [] })); retired = st.retired ++ x.batch ∷ [] }) (length st.retired)) own
+      ∙ ap (λ (l : List (ModelSlot T R)). release (record waiting { slots = l }) (length st.retired)) (waits_nothing (length st.retired) (set st.slots s (record slot { batch = [] })) is_quiet)
+      ∙ ap away (kept_for_none (length st.retired) (set st.slots s (record slot { batch = [] })) is_quiet)
+      ∙ (λ i. (record waiting { retired = set_seam st.retired slot.batch [] i }, (get_seam st.retired slot.batch [] ∙ batch) i))
+    where
+      goes : (n : ℕ) → ((suc n == 0) || nat_lt (suc n) 0) ≡ false
+      goes n = grind arith
+
+  module _ (st : ModelState T R) (quiet : AreQuiet st.slots) (room : st.rest ≢ [] → least_unused st.slots < length st.slots) where
+    abbrev pub rested_slots : List (T × R) → List (ModelSlot T R)
+    rested_slots [] = st.slots
+    rested_slots (v ∷ vs) = set st.slots (least_unused st.slots) (emptied Registered)
+
+    abbrev pub rested : List (T × R) → StateAndGone T R
+    rested vs = (record st { slots = rested_slots vs; retired = st.retired ++ left_of vs; rest = [] }, vs)
+
+    abbrev taker : List (T × R) → ModelSlot T R
+    taker vs = record { kind = Registered; guards = 0; batch = vs; order = [] }
+
+    abbrev took : List (T × R) → ModelState T R
+    took vs = record st { slots = set st.slots (least_unused st.slots) (taker vs); rest = [] }
+
+    took_quiet : (vs : List (T × R)) → AreQuiet (set st.slots (least_unused st.slots) (taker vs))
+    took_quiet vs = quiet_to st.slots (least_unused st.slots) (taker vs) (refl, refl, λ free. absurd (cc)) quiet
+
+    module _ (v : T × R) (vs : List (T × R)) (within : least_unused st.slots < length st.slots) where
+      abbrev n : ℕ
+      n = least_unused st.slots
+
+      inside : (slot : ModelSlot T R) → least_unused st.slots < length (set st.slots (least_unused st.slots) slot)
+      inside slot = rw (length-set st.slots (least_unused st.slots) slot) within
+
+      its : (slot : ModelSlot T R) → get_or (set st.slots (least_unused st.slots) slot) (least_unused st.slots) unmade_slot ≡ slot
+      its slot = get_or-set_same st.slots (least_unused st.slots) slot unmade_slot within
+
+      -- with this in its batch, it does as the others
+      then_goes : (k : ModelState T R) (slot : ModelSlot T R) → k.slots ≡ set st.slots (least_unused st.slots) slot → slot.kind ≡ Registered → AreQuiet k.slots
+          → batch_in_turn k (least_unused st.slots) ≡ (record k { slots = set st.slots (least_unused st.slots) (emptied Registered); retired = k.retired ++ left_of slot.batch }, slot.batch)
+      then_goes k slot slots kind at_rest =
+          let there : least_unused st.slots < length k.slots = subst (λ (l : List (ModelSlot T R)). least_unused st.slots < length l) (sym slots) (inside slot) in
+          let own : model_slot k (least_unused st.slots) ≡ slot = ap (λ (l : List (ModelSlot T R)). get_or l (least_unused st.slots) unmade_slot) slots ∙ its slot in
+          batch_goes k (least_unused st.slots) there at_rest
+          ∙ ap (λ (x : ModelSlot T R). (record k { slots = set k.slots (least_unused st.slots) (emptied x.kind); retired = k.retired ++ left_of x.batch }, x.batch)) own
+          ∙ (λ i. (record k { slots = (ap (λ (l : List (ModelSlot T R)). set l (least_unused st.slots) (emptied slot.kind)) slots ∙ set-set st.slots (least_unused st.slots) slot (emptied slot.kind) ∙ ap (λ (q : Kind). set st.slots (least_unused st.slots) (emptied q)) kind) i; retired = k.retired ++ left_of slot.batch }, slot.batch))
+
+      full_goes : attempt (took (v ∷ vs)) (least_unused st.slots) ≡ (record st { slots = set st.slots (least_unused st.slots) (emptied Registered); retired = st.retired ++ [] ∷ []; rest = [] }, v ∷ vs)
+      full_goes =
+          quiet_attempt (took (v ∷ vs)) (least_unused st.slots) (taker (v ∷ vs)) v vs (inside (taker (v ∷ vs))) (took_quiet (v ∷ vs)) (its (taker (v ∷ vs))) refl
+          ∙ ap (λ (l : List (ModelSlot T R)). (record st { slots = l; retired = st.retired ++ [] ∷ []; rest = [] }, v ∷ vs)) (set-set st.slots (least_unused st.slots) (taker (v ∷ vs)) (emptied Registered))
+
+      abbrev goes_from : StateAndGone T R → StateAndGone T R
+      goes_from o = with_gone o.1 (batch_in_turn o.0 (least_unused st.slots))
+
+      taker_goes : goes_from (attempt_if_full (took (v ∷ vs)) (least_unused st.slots)) ≡ rested (v ∷ vs)
+      taker_goes = go (is_full st.size (model_slot (took (v ∷ vs)) (least_unused st.slots)).batch)
+        where
+          go : (full : Bool) → goes_from (if full then attempt (took (v ∷ vs)) (least_unused st.slots) else (took (v ∷ vs), [])) ≡ rested (v ∷ vs)
+          go true =
+              ap goes_from full_goes
+              ∙ ap (with_gone (v ∷ vs)) (then_goes (record st { slots = set st.slots (least_unused st.slots) (emptied Registered); retired = st.retired ++ [] ∷ []; rest = [] }) (emptied Registered) refl refl (quiet_set st.slots (least_unused st.slots) Registered quiet))
+              ∙ (λ i. (record st { slots = set st.slots (least_unused st.slots) (emptied Registered); retired = append-nil (st.retired ++ [] ∷ []) i; rest = [] }, append-nil (v ∷ vs) i))
+          go false = then_goes (took (v ∷ vs)) (taker (v ∷ vs)) refl refl (took_quiet (v ∷ vs))
+
+    pub rest_goes : rest_in_turn st ≡ rested st.rest
+    rest_goes = go st.rest refl
+      where
+        step : Bool → StateAndGone T R
+        step none = if none then (st, []) else (let o : StateAndGone T R = attempt_if_full (with_number_in_use st (least_unused st.slots) Registered) (least_unused st.slots) in with_gone o.1 (batch_in_turn o.0 (least_unused st.slots)))
+
+        some : (n : ℕ) → (suc n == 0) ≡ false
+        some n = grind arith
+
+        go : (vs : List (T × R)) → st.rest ≡ vs → rest_in_turn st ≡ rested vs
+        go [] none =
+            ap (λ (l : List (T × R)). step (length l == 0)) none
+            ∙ (λ i. (record st { retired = sym (append-nil st.retired) i; rest = none i }, []))
+        go (v ∷ vs) is =
+            let within : least_unused st.slots < length st.slots = room (λ none. let c : v ∷ vs ≡ [] = sym is ∙ none in absurd (cc)) in
+            let there : (least_unused st.slots == length st.slots) ≡ false = grind (arith, within) in
+            let makes : Bool → List (T × R) → ModelState T R = λ new l. record st { slots = (if new then st.slots ++ taker l ∷ [] else set st.slots (least_unused st.slots) (taker l)); rest = [] } in
+            ap step (ap (λ (l : List (T × R)). length l == 0) is ∙ some (length vs))
+            ∙ (λ i. goes_from v vs within (attempt_if_full (makes (there i) (is i)) (least_unused st.slots)))
+            ∙ taker_goes v vs within
+
+  -- The last steps: the numbers.
+
+  -- nothing but its kind is left of each slot
+  abbrev pub AreEmpty : List (ModelSlot T R) → Type 0
+  AreEmpty xs = (s : ℕ) → get_or xs s unmade_slot ≡ emptied (get_or xs s unmade_slot).kind
+
+  number_goes : (st : ModelState T R) (s : ℕ) → model_slot st s ≡ emptied (model_slot st s).kind → number_in_turn st s ≡ set_slot st s unmade_slot
+  number_goes st s is = go (is_free (model_slot st s).kind) refl
+    where
+      go : (f : Bool) → is_free (model_slot st s).kind ≡ f → ◌≡◌ {A = ModelState T R} (if f then st else with_number_free st s) (set_slot st s unmade_slot)
+      go true free =
+          sym (ap (λ (x : ModelSlot T R). set_slot st s x) (sym (is ∙ emptied_free (model_slot st s).kind free))
+          ∙ ap (λ (l : List (ModelSlot T R)). record st { slots = l }) (set-get_or st.slots s unmade_slot))
+      go false used = ap (λ (l : List (T × R)). record (set_slot st s unmade_slot) { rest = l }) (ap (λ (x : ModelSlot T R). st.rest ++ x.batch) is ∙ append-nil st.rest)
 
   numbers_append : (st : ModelState T R) (ss ts : List ℕ) → numbers_in_turn st (ss ++ ts) ≡ numbers_in_turn (numbers_in_turn st ss) ts
   numbers_append st [] ts = refl
-  numbers_append st (s ∷ ss) ts = numbers_append (with_number_free st s) ss ts
+  numbers_append st (s ∷ ss) ts = numbers_append (number_in_turn st s) ss ts
 
-  numbers_go : (n k : ℕ) (st : ModelState T R) → k + n ≡ length st.slots → numbers_in_turn st (reverse (range_with_len k n)) ≡ record st { slots = from (λ (slot : ModelSlot T R). record slot { kind = Free; guards = 0 }) k st.slots }
-  numbers_go zero k st h = ap (λ (l : List (ModelSlot T R)). record st { slots = l }) (sym (from_end (λ (slot : ModelSlot T R). record slot { kind = Free; guards = 0 }) k st.slots (omega (arith, h))))
-  numbers_go (suc n) k st h =
+  numbers_go : (n k : ℕ) (st : ModelState T R) → k + n ≡ length st.slots → AreEmpty st.slots → numbers_in_turn st (reverse (range_with_len k n)) ≡ record st { slots = from (λ (slot : ModelSlot T R). unmade_slot) k st.slots }
+  numbers_go zero k st h empty = ap (λ (l : List (ModelSlot T R)). record st { slots = l }) (sym (from_end (λ (slot : ModelSlot T R). unmade_slot) k st.slots (omega (arith, h))))
+  numbers_go (suc n) k st h empty =
       let within : k < length st.slots = omega (arith, h) in
       let one : k + 1 ≡ suc k = omega arith in
-      let free : ModelSlot T R → ModelSlot T R = λ slot. record slot { kind = Free; guards = 0 } in
+      let free : ModelSlot T R → ModelSlot T R = λ slot. unmade_slot in
+      let now : ModelState T R = record st { slots = from free (suc k) st.slots } in
+      let at : get_or (from free (suc k) st.slots) k unmade_slot ≡ model_slot st k = from_at free k st.slots unmade_slot in
       ap (numbers_in_turn st) (reverse-cons k (range_with_len (k + 1) n)) ∙ numbers_append st (reverse (range_with_len (k + 1) n)) (k ∷ [])
-      ∙ ap (λ (now : ModelState T R). with_number_free now k) (numbers_go n (k + 1) st (omega (arith, h)))
-      ∙ ap (λ (m : ℕ). with_number_free (record st { slots = from free m st.slots }) k) one
+      ∙ ap (λ (now : ModelState T R). number_in_turn now k) (numbers_go n (k + 1) st (omega (arith, h)) empty)
+      ∙ ap (λ (m : ℕ). number_in_turn (record st { slots = from free m st.slots }) k) one
+      ∙ number_goes now k (at ∙ empty k ∙ ap (λ (x : ModelSlot T R). emptied x.kind) (sym at))
       ∙ ap (λ (l : List (ModelSlot T R)). record st { slots = l }) (from_before free k st.slots unmade_slot within)
 
 -- Retired batches: those that wait for no slot are gone.
@@ -462,22 +591,22 @@ module _ {T R : Type 0} where
       go b e (inl t) = inl t
       go b e (inr f) = inr (clean b (sym (waits_other st s b f) ∙ e))
 
-  next_clean : (st : ModelState T R) (s : ℕ) → s < length st.slots → IsClean st → IsClean (with_number_free (part st s).0 s)
+  next_clean : (st : ModelState T R) (s : ℕ) → s < length st.slots → IsClean st → IsClean (set_guards (part st s).0 s 0)
   next_clean st s h clean b e =
       let parted : ModelState T R = (part st s).0 in
-      let orders : map (λ (x : ModelSlot T R). x.order) (with_number_free (part st s).0 s).slots ≡ map (λ (x : ModelSlot T R). x.order) (part st s).0.slots =
-      ap (map (λ (x : ModelSlot T R). x.order)) (next_slots st s h) ∙ set_map (λ (x : ModelSlot T R). x.order) st.slots s (freed (model_slot st s))
+      let orders : map (λ (x : ModelSlot T R). x.order) (set_guards (part st s).0 s 0).slots ≡ map (λ (x : ModelSlot T R). x.order) (part st s).0.slots =
+      ap (map (λ (x : ModelSlot T R). x.order)) (next_slots st s h) ∙ set_map (λ (x : ModelSlot T R). x.order) st.slots s (off_slot (model_slot st s))
       ∙ sym (set_map (λ (x : ModelSlot T R). x.order) st.slots s (record (model_slot st s) { order = [] }))
       ∙ ap (map (λ (x : ModelSlot T R). x.order)) (sym (release_slots (set_slot st s (record (model_slot st s) { order = [] })) (model_slot st s).order)) in
-      part_clean st s clean b (sym (kept_by b (with_number_free (part st s).0 s).slots (part st s).0.slots orders) ∙ e)
+      part_clean st s clean b (sym (kept_by b (set_guards (part st s).0 s 0).slots (part st s).0.slots orders) ∙ e)
 
   parted_clean : (n k : ℕ) (st : ModelState T R) → k + n ≡ length st.slots → IsClean st → IsClean (part_all st (range_with_len k n)).0
   parted_clean zero k st h clean = clean
   parted_clean (suc n) k st h clean =
       let within : k < length st.slots = omega (arith, h) in
-      let long : k + 1 + n ≡ length (with_number_free (part st k).0 k).slots =
-      omega (arith, h, ap (λ (l : List (ModelSlot T R)). length l) (next_slots st k within), length-set st.slots k (freed (model_slot st k))) in
-      parted_clean n (k + 1) (with_number_free (part st k).0 k) long (next_clean st k within clean)
+      let long : k + 1 + n ≡ length (set_guards (part st k).0 k 0).slots =
+      omega (arith, h, ap (λ (l : List (ModelSlot T R)). length l) (next_slots st k within), length-set st.slots k (off_slot (model_slot st k))) in
+      parted_clean n (k + 1) (set_guards (part st k).0 k 0) long (next_clean st k within clean)
 
 -- All of it.
 
@@ -505,90 +634,138 @@ module _ {T R : Type 0} where
       ap (λ (l : List (List (T × R))). get_or l b []) (flat_map-cons (λ (slot : ModelSlot T R). left_of slot.batch) x xs)
       ∙ append_gone (left_of x.batch) (flat_map (λ (slot : ModelSlot T R). left_of slot.batch) xs) (left_gone x.batch) (lefts_gone xs) b
 
-  all_quiet : (xs : List (ModelSlot T R)) → AreQuiet (map (λ (slot : ModelSlot T R). freed slot) xs)
-  all_quiet [] s = (refl, refl)
-  all_quiet (x ∷ xs) zero = (refl, refl)
-  all_quiet (x ∷ xs) (suc s) = all_quiet xs s
+  all_quiet : (xs : List (ModelSlot T R)) → AreSound xs → AreQuiet (map (λ (slot : ModelSlot T R). off_slot slot) xs)
+  all_quiet [] sound s = (refl, refl, λ e. refl)
+  all_quiet (x ∷ xs) sound zero = (refl, refl, λ e. ap (λ (slot : ModelSlot T R). off_slot slot) ((sound zero).0 e))
+  all_quiet (x ∷ xs) sound (suc s) = all_quiet xs (λ i. sound (suc i)) s
 
-  slots_end : (kind : Kind) (xs : List (ModelSlot T R))
-      → map (λ (slot : ModelSlot T R). record slot { kind = Free; guards = 0 }) (map (λ (slot : ModelSlot T R). emptied kind) (map (λ (slot : ModelSlot T R). freed slot) xs)) ≡ map without_batch (map (λ (slot : ModelSlot T R). freed slot) xs)
-  slots_end kind [] = refl
-  slots_end kind (x ∷ xs) = ap (λ (l : List (ModelSlot T R)). emptied Free ∷ l) (slots_end kind xs)
+  least_map : (f : ModelSlot T R → ModelSlot T R) → ((x : ModelSlot T R) → (f x).kind ≡ x.kind) → (xs : List (ModelSlot T R)) → least_unused (map f xs) ≡ least_unused xs
+  least_map f keeps [] = refl
+  least_map f keeps (x ∷ xs) = λ i. cond (not (is_free (keeps x i))) (1 + least_map f keeps xs i) 0
 
-  same_orders : (n : ℕ) (xs : List (ModelSlot T R)) → map without_batch (map (λ (slot : ModelSlot T R). freed slot) xs) ≡ map (with_order_from n) (map without_batch (map (λ (slot : ModelSlot T R). freed slot) xs))
+  all_unmade : (xs ys : List (ModelSlot T R)) → length xs ≡ length ys → ◌≡◌ {A = List (ModelSlot T R)} (map (λ slot. unmade_slot) xs) (map (λ slot. unmade_slot) ys)
+  all_unmade [] [] h = refl
+  all_unmade [] (y ∷ ys) h = absurd (omega (arith, h))
+  all_unmade (x ∷ xs) [] h = absurd (omega (arith, h))
+  all_unmade (x ∷ xs) (y ∷ ys) h = ap (λ (l : List (ModelSlot T R)). unmade_slot ∷ l) (all_unmade xs ys (omega (arith, h)))
+
+  same_orders : (n : ℕ) (xs : List (ModelSlot T R)) → ◌≡◌ {A = List (ModelSlot T R)} (map (λ slot. unmade_slot) xs) (map (with_order_from n) (map (λ slot. unmade_slot) xs))
   same_orders n [] = refl
-  same_orders n (x ∷ xs) = ap (λ (l : List (ModelSlot T R)). emptied Free ∷ l) (same_orders n xs)
+  same_orders n (x ∷ xs) = ap (λ (l : List (ModelSlot T R)). unmade_slot ∷ l) (same_orders n xs)
+
+  rest_beside : (st : ModelState T R) (ss : List ℕ) → (part_all st ss).0.rest ≡ st.rest
+  rest_beside st [] = refl
+  rest_beside st (s ∷ ss) = rest_beside (set_guards (part st s).0 s 0) ss ∙ releases_beside (λ (k : ModelState T R). k.rest) (λ k retired. refl) (set_slot st s (record (model_slot st s) { order = [] })) (model_slot st s).order
 
   -- what the slots are after all partings
-  pub parted_all : (st : ModelState T R) → (part_all st (range_with_len 0 (length st.slots))).0.slots ≡ map (λ (slot : ModelSlot T R). freed slot) st.slots
+  pub parted_all : (st : ModelState T R) → (part_all st (range_with_len 0 (length st.slots))).0.slots ≡ map (λ (slot : ModelSlot T R). off_slot slot) st.slots
   unfolding from
   parted_all st = parted_are (length st.slots) 0 st (omega arith)
 
-  module _ (st : ModelState T R) (kind : Kind) (o : IsOrderly st) where
-    abbrev all : List ℕ
-    all = range_with_len 0 (length st.slots)
-
+  module _ (st : ModelState T R) (o : IsOrderly st) where
     abbrev parted : StateAndGone T R
     parted = part_all st (range_with_len 0 (length st.slots))
+
+    abbrev all : List ℕ
+    all = range_with_len 0 (length (part_all st (range_with_len 0 (length st.slots))).0.slots)
 
     abbrev lefts : List (List (T × R))
     lefts = (part_all st (range_with_len 0 (length st.slots))).0.retired ++ flat_map (λ (slot : ModelSlot T R). left_of slot.batch) (part_all st (range_with_len 0 (length st.slots))).0.slots
 
+    abbrev away_slots : List (ModelSlot T R)
+    away_slots = map (λ (slot : ModelSlot T R). emptied slot.kind) (part_all st (range_with_len 0 (length st.slots))).0.slots
+
+    -- what is left after the batches, and after what was left
+    abbrev away : StateAndGone T R
+    away = (record parted.0 { slots = away_slots; retired = lefts }, flat_map (λ (slot : ModelSlot T R). slot.batch) parted.0.slots)
+
+    abbrev all_lefts : List (List (T × R))
+    all_lefts = lefts ++ left_of parted.0.rest
+
     abbrev reclaimed : StateAndGone T R
-    reclaimed = (record parted.0 { slots = map without_batch parted.0.slots; retired = lefts }, parted.1 ++ flat_map (λ slot. slot.batch) parted.0.slots)
+    reclaimed = (record parted.0 { slots = map (λ slot. unmade_slot) parted.0.slots; retired = all_lefts; rest = [] }, parted.1 ++ flat_map (λ (slot : ModelSlot T R). slot.batch) parted.0.slots ++ parted.0.rest)
 
     whole : 0 + length st.slots ≡ length st.slots
     whole = omega arith
 
+    sound : AreSound st.slots
+    sound s = (o.free s, o.inactive s)
+
     pub parted_quiet : AreQuiet (part_all st (range_with_len 0 (length st.slots))).0.slots
-    parted_quiet = subst (λ (l : List (ModelSlot T R)). AreQuiet l) (sym (parted_all st)) (all_quiet st.slots)
+    parted_quiet = subst (λ (l : List (ModelSlot T R)). AreQuiet l) (sym (parted_all st)) (all_quiet st.slots sound)
 
-    parted_many : 0 + length st.slots ≡ length (part_all st (range_with_len 0 (length st.slots))).0.slots
-    parted_many = whole ∙ sym (ap (λ (l : List (ModelSlot T R)). length l) (parted_all st) ∙ length-map st.slots (λ (slot : ModelSlot T R). freed slot))
-
-    abbrev away : StateAndGone T R
-    away = (record parted.0 { slots = map (λ (slot : ModelSlot T R). emptied kind) parted.0.slots; retired = lefts }, flat_map (λ (slot : ModelSlot T R). slot.batch) parted.0.slots)
-
-    batches_away : batches_in_turn kind parted.0 all ≡ away
+    batches_away : batches_in_turn parted.0 all ≡ away
     unfolding from flat_from
-    batches_away = batches_go kind (length st.slots) 0 parted.0 parted_many parted_quiet
+    batches_away = batches_go (length parted.0.slots) 0 parted.0 (omega arith) parted_quiet
 
-    numbers_back : numbers_in_turn away.0 (reverse all) ≡ reclaimed.0
+    -- the slots then
+
+    away_at : (s : ℕ) → model_slot away.0 s ≡ emptied (model_slot parted.0 s).kind
+    away_at s = get_map (λ (slot : ModelSlot T R). emptied slot.kind) parted.0.slots s unmade_slot unmade_slot refl
+
+    away_empty : AreEmpty away_slots
+    away_empty s = away_at s ∙ ap (λ (x : ModelSlot T R). emptied x.kind) (sym (away_at s))
+
+    away_quiet : AreQuiet away_slots
+    away_quiet s =
+        subst (λ (x : ModelSlot T R). (has_guard x ≡ false) × (slot_order x ≡ []) × (is_free x.kind ≡ true → x ≡ unmade_slot)) (sym (away_at s))
+        (refl, refl, emptied_free (model_slot parted.0 s).kind)
+
+    away_room : parted.0.rest ≢ [] → least_unused away_slots < length away_slots
+    away_room some =
+        let least : least_unused away_slots ≡ least_unused st.slots =
+        least_map (λ (slot : ModelSlot T R). emptied slot.kind) (λ x. refl) parted.0.slots ∙ ap (λ (l : List (ModelSlot T R)). least_unused l) (parted_all st) ∙ least_map (λ (slot : ModelSlot T R). off_slot slot) (λ x. refl) st.slots in
+        let many : length away_slots ≡ length st.slots =
+        length-map parted.0.slots (λ (slot : ModelSlot T R). emptied slot.kind) ∙ ap (λ (l : List (ModelSlot T R)). length l) (parted_all st) ∙ length-map st.slots (λ (slot : ModelSlot T R). off_slot slot) in
+        let room : least_unused st.slots < length st.slots = o.rest (λ none. some (rest_beside st (range_with_len 0 (length st.slots)) ∙ none)) in
+        subst (λ (t : ℕ × ℕ). t.0 < t.1) (λ i. (sym least i, sym many i)) room
+
+    abbrev emptied_all : StateAndGone T R
+    emptied_all = rested away.0 away_quiet away_room parted.0.rest
+
+    rest_away : rest_in_turn away.0 ≡ emptied_all
+    rest_away = rest_goes away.0 away_quiet away_room
+
+    all_empty : (vs : List (T × R)) → AreEmpty (rested_slots away.0 away_quiet away_room vs)
+    all_empty [] s = away_empty s
+    all_empty (v ∷ vs) s = at_set (λ (x : ModelSlot T R). x ≡ emptied x.kind) away.0.slots (least_unused away.0.slots) s (emptied Registered) unmade_slot (λ same within. refl) (away_empty s)
+
+    all_many : (vs : List (T × R)) → length (rested_slots away.0 away_quiet away_room vs) ≡ length parted.0.slots
+    all_many [] = length-map parted.0.slots (λ (slot : ModelSlot T R). emptied slot.kind)
+    all_many (v ∷ vs) = length-set away.0.slots (least_unused away.0.slots) (emptied Registered) ∙ length-map parted.0.slots (λ (slot : ModelSlot T R). emptied slot.kind)
+
+    numbers_back : numbers_in_turn emptied_all.0 (reverse all) ≡ reclaimed.0
     unfolding from
     numbers_back =
-        numbers_go (length st.slots) 0 away.0 (parted_many ∙ sym (length-map parted.0.slots (λ (slot : ModelSlot T R). emptied kind)))
-        ∙ ap (λ (l : List (ModelSlot T R)). record parted.0 { slots = map (λ (slot : ModelSlot T R). record slot { kind = Free; guards = 0 }) (map (λ (slot : ModelSlot T R). emptied kind) l); retired = lefts }) (parted_all st)
-        ∙ ap (λ (l : List (ModelSlot T R)). record parted.0 { slots = l; retired = lefts }) (slots_end kind st.slots)
-        ∙ ap (λ (l : List (ModelSlot T R)). record parted.0 { slots = map without_batch l; retired = lefts }) (sym (parted_all st))
+        numbers_go (length parted.0.slots) 0 emptied_all.0 (omega (arith, all_many parted.0.rest)) (all_empty parted.0.rest)
+        ∙ ap (λ (l : List (ModelSlot T R)). record parted.0 { slots = l; retired = all_lefts; rest = [] }) (all_unmade (rested_slots away.0 away_quiet away_room parted.0.rest) parted.0.slots (all_many parted.0.rest))
 
-    pub in_turn_is : in_turn kind st ≡ reclaimed
+    pub in_turn_is : in_turn st ≡ reclaimed
     in_turn_is =
-        let ends : StateAndGone T R → StateAndGone T R → StateAndGone T R = λ p b. (numbers_in_turn b.0 (reverse all), p.1 ++ b.1) in
-        ap (λ (p : StateAndGone T R). ends p (batches_in_turn kind p.0 all)) (parts_are (length st.slots) 0 st whole (λ s. (o.free s, o.inactive s)))
-        ∙ ap (ends parted) batches_away
-        ∙ (λ i. (numbers_back i, parted.1 ++ flat_map (λ (slot : ModelSlot T R). slot.batch) parted.0.slots))
+        let kept : StateAndGone T R → StateAndGone T R → StateAndGone T R = λ b r. (numbers_in_turn r.0 (reverse all), b.1 ++ r.1) in
+        ap (λ (p : StateAndGone T R). with_gone p.1 (kept_in_turn p.0)) (parts_are (length st.slots) 0 st whole sound)
+        ∙ ap (λ (b : StateAndGone T R). with_gone parted.1 (kept b (rest_in_turn b.0))) batches_away
+        ∙ ap (λ (r : StateAndGone T R). with_gone parted.1 (kept away r)) rest_away
+        ∙ (λ i. (numbers_back i, sym (append_assoc parted.1 (flat_map (λ (slot : ModelSlot T R). slot.batch) parted.0.slots) parted.0.rest) i))
 
-    lefts_are_gone : AllGone lefts
+    lefts_are_gone : AllGone all_lefts
     lefts_are_gone =
-        append_gone parted.0.retired (flat_map (λ (slot : ModelSlot T R). left_of slot.batch) parted.0.slots)
-        (λ b. parted_clean (length st.slots) 0 st whole o.gone b (kept_for_none b parted.0.slots parted_quiet)) (lefts_gone parted.0.slots)
+        append_gone lefts (left_of parted.0.rest)
+        (append_gone parted.0.retired (flat_map (λ (slot : ModelSlot T R). left_of slot.batch) parted.0.slots)
+        (λ b. parted_clean (length st.slots) 0 st whole o.gone b (kept_for_none b parted.0.slots parted_quiet)) (lefts_gone parted.0.slots))
+        (left_gone parted.0.rest)
 
     abbrev modelled : ModelState T R
-    modelled = record parted.0 { slots = map without_batch parted.0.slots; retired = [] }
+    modelled = record parted.0 { slots = map (λ slot. unmade_slot) parted.0.slots; retired = []; rest = [] }
 
-    below : reclaimed.0 ≡ with_gone_below (length lefts) modelled
-    below =
-        let n = length lefts in
-        λ i. record parted.0 {
-          slots = (ap (map without_batch) (parted_all st) ∙ same_orders n st.slots ∙ ap (λ (l : List (ModelSlot T R)). map (with_order_from n) (map without_batch l)) (sym (parted_all st))) i;
-          retired = gone_many lefts lefts_are_gone i;
-        }
+    below : reclaimed.0 ≡ with_gone_below (length all_lefts) modelled
+    below = λ i. record parted.0 { slots = same_orders (length all_lefts) parted.0.slots i; retired = gone_many all_lefts lefts_are_gone i; rest = [] }
 
 pub reclaims_in_turn : {T : Type 0} (puts : ℕ → T → List T) (weight : T → ℕ) → ReclaimsInTurn puts weight
-reclaims_in_turn {T} puts weight st kind o =
-    let is : in_turn kind st ≡ reclaimed st kind o = in_turn_is st kind o in (
+reclaims_in_turn {T} puts weight st o =
+    let is : in_turn st ≡ reclaimed st o = in_turn_is st o in (
       ap (λ (x : StateAndGone T ℕ). x.1 ++ gone_from puts weight (further puts x.1)) is,
       ap (λ (x : StateAndGone T ℕ). record x.0 { retired = [] }) is,
-      ap (λ (x : StateAndGone T ℕ). x.0) is ∙ below st kind o
-          ∙ ap (λ (x : StateAndGone T ℕ). with_gone_below (length x.0.retired) (modelled st kind o)) (sym is),
+      ap (λ (x : StateAndGone T ℕ). x.0) is ∙ below st o
+          ∙ ap (λ (x : StateAndGone T ℕ). with_gone_below (length x.0.retired) (modelled st o)) (sym is),
     )

@@ -1,36 +1,40 @@
 -- Single events that are made alone lead the hands from the state that they hold to the state that the model says.
-use Rattle.std.proofs.Common.{◌≡◌, ℕ, ◌==◌, ◌&&◌, true, false, not, List, [], ◌∷◌, ◌++◌, set, Option, Some, None, option_map, refl, sym, ap, subst, ◌∙◌, append-nil, arith}
-use Rattle.std.specs.Prelude.{Ok}
+use Rattle.std.proofs.Common.{◌≡◌, ◌⊎◌, ℕ, suc, ◌==◌, ◌&&◌, ◌||◌, Bool, true, false, List, [], ◌∷◌, ◌++◌, length, map, set, Option, Some, None, option_map, inl, inr, refl, sym, ap, subst, ◌∙◌, append-nil, arith}
+use Rattle.std.proofs.lemmas.List.{length-map}
 use mathlib.Core.List.{IsPrefix}
 use base.Stored.{Coded}
+use Rattle.seize_table.specs.Place.{all_numbers}
 use Rattle.seize_machine.specs.Machine.State as machine
-use Rattle.seize_machine.specs.Machine.Event.{Event}
+use Rattle.seize_machine.specs.Machine.Event.{Event, Take}
 use Rattle.seize_machine.specs.Machine.Next.{can_link, is_none_or_fresh, next}
 use Rattle.seize_machine.specs.declared.machine.event.Answer.{Answer}
 use Rattle.seize_machine.specs.declared.machine.event.Answer.TheVariants.{Done, Link}
 use Rattle.seize_machine.proofs.Facts.{if_some, swapped}
-use Rattle.seize_model.specs.declared.kind.Kind.{Kind}
 use Rattle.seize_model.specs.Waiting.State as waiting
-use Rattle.seize_model.specs.Waiting.Calls.{is_free, is_owned, leave, model_link, one_guard_less, set_guards, with_number_free, with_number_free_if, with_number_in_use}
-use Rattle.seize_model.specs.Waiting.Further.{Lighter, with_further}
+use Rattle.seize_model.specs.Waiting.Attempt.{StateAndGone, is_full}
+use Rattle.seize_model.specs.Waiting.Calls.{is_free, is_owned, model_link, others_in_use, rest_and_batch, set_guards, with_number_free, with_number_in_use}
+use Rattle.seize_model.specs.Agreement.Events.{IsTaken}
+use Rattle.seize_model.specs.Agreement.Play.{play}
 use Rattle.seize_model.specs.Agreement.Shows.{ShowsReclaimers, ShowsState, held_value}
 use Rattle.seize_model.proofs.Simulation.Coupling.{NearAt}
 use Rattle.seize_model.proofs.Simulation.Guards.{enter_step, near_entered, near_guards}
-use Rattle.seize_model.proofs.Simulation.Links.{end_near, end_step, same_link, swapped_near}
-use Rattle.seize_model.proofs.Simulation.Numbers.{take_ends}
-use Rattle.seize_model.proofs.Simulation.Plays.{both_same}
+use Rattle.seize_model.proofs.Simulation.Gathers.{end_near, end_step, may_end}
+use Rattle.seize_model.proofs.Simulation.Links.{same_link, swapped_near}
+use Rattle.seize_model.proofs.Simulation.Numbers.{take_list, taken_few, taking_rest}
+use Rattle.seize_model.proofs.Simulation.Plays.{both_same, play_first}
 use Rattle.seize_model.proofs.Simulation.Views.{near_with, shows_with, with_reclaimers}
+use Rattle.seize_model.proofs.WaitingSets.Refusals.{IsIdle}
 use Rattle.seize_book.specs.Book.{after}
 use Rattle.seize_book.specs.Entry.{Entry, Made}
-use Rattle.seize_book.specs.Slots.{slot_number}
 use Rattle.seize_book.specs.Tokens.{Name, start}
 use Rattle.seize_book.specs.declared.book.pass.Pass.{Pass}
-use Rattle.seize_alone.specs.Events.{EntersHeld, GivesHeld, GuardsHeld, IsHeldAs, MakesAlone, OwnedLeavesHeld, SwapsHeld, TakesHeld}
-use Rattle.seize_alone.specs.Holding.{AreLent, AreOfKinds, Holds, found, some_state, with_gone_below}
-use Rattle.seize_alone.proofs.Below.{active_below, free_below, guards_below, least_below, off_below, slot_below, use_below, used_below}
+use Rattle.seize_alone.specs.Events.{EntersHeld, GivesHeld, GuardsHeld, IsHeldAs, MakesAlone, SwapsHeld, TakesHeld}
+use Rattle.seize_alone.specs.Holding.{AreLent, AreOfKinds, Holds, found, some_state, some_value, with_gone_below}
+use Rattle.seize_alone.proofs.Below.{active_below, free_below, guards_below, least_below, left_below, off_below, others_below, slot_below, use_below, used_below}
 use Rattle.seize_alone.proofs.Found.{all_later, found_lent, has_first, has_right, lent_append, lent_found, one_lent, reclaimers_on, same_some, shows_on}
-use Rattle.seize_alone.proofs.Held.{answered, guarded, not_refused, parts_held, some_active, some_used}
-use Rattle.seize_alone.proofs.Mapped.{free_same, guards_same, least_same, link_same, slot_same, swap_same, use_same}
+use Rattle.seize_alone.proofs.Held.{some_active, some_inactive, some_used}
+use Rattle.seize_alone.proofs.Mapped.{free_same, guards_same, least_same, left_same, link_same, long_same, others_same, slot_same, swap_same, use_same}
+use Rattle.seize_alone.proofs.Ready.{nothing, nothing_lighter}
 
 -- What the event did.
 
@@ -48,6 +52,12 @@ module _ {pass pass' : Pass} {event : Event} {answer : Answer} (m : MakesAlone p
 
   pub made_grows : IsPrefix pass.seen pass'.seen
   made_grows = (Made m.deed ∷ [], ap (λ (log : List Entry). log ++ Made m.deed ∷ []) (sym (m.noted.alone m.sole)) ∙ sym m.noted.appended)
+
+-- where a number goes back
+which_end : {X : Type 0} (others : Bool) (left : List X) → (others || (length left == 0)) ≡ true → (others ≡ true) ⊎ (left ≡ [])
+which_end true left e = inl refl
+which_end false [] e = inr refl
+which_end false (x ∷ left) e = absurd (let no : (suc (length left) == 0) ≡ false = grind arith in cc)
 
 module _ {T : Type 0} (c : Coded T) where
   abbrev NearHands : List (ℕ × T) → List (ℕ × ℕ) → waiting.ModelState T ℕ → machine.State → Type 0
@@ -74,9 +84,6 @@ module _ {T : Type 0} (c : Coded T) where
 
   -- Enter, give, take.
 
-  some_inactive : (st : waiting.ModelState T ℕ) (s : ℕ) → waiting.has_guard (waiting.model_slot st s) ≡ false → waiting.has_guard (waiting.model_slot (some_state st) s) ≡ false
-  some_inactive st s off = ap (λ (slot : waiting.ModelSlot (Option T) (Option ℕ)). waiting.has_guard slot) (slot_same st s) ∙ off
-
   pub enters_held : EntersHeld c.code
   enters_held st names kinds s answer pass pass' m holds used off =
       let n = holds.gone in let whole : waiting.ModelState T ℕ = with_gone_below holds.gone st in
@@ -91,20 +98,33 @@ module _ {T : Type 0} (c : Coded T) where
   gives_held st names kinds s answer pass pass' m holds used off =
       let n = holds.gone in let whole : waiting.ModelState T ℕ = with_gone_below holds.gone st in
       let near = near_of st names kinds pass.name pass.seen holds in
-      let used_so = some_used whole s (used_below n st s used) in let off_so = some_inactive whole s (off_below n st s off) in
-      let ends = both_same (state_then m, answer) (_, Done) (sym (made_next m) ∙ end_step (with_reclaimers (found names) (found kinds)) (some_state whole) (state_before m) s near used_so off_so) in
-      held_made m st (with_number_free st s) _ names kinds holds (free_same whole s ∙ ap some_state (free_below n st s))
-      (subst (λ (k : machine.State). NearAt (with_reclaimers (found names) (found kinds)) [] (with_number_free (some_state whole) s) k) (sym ends.0)
-      (end_near (with_reclaimers (found names) (found kinds)) (some_state whole) (state_before m) s near used_so off_so))
+      let idle : IsIdle (some_state whole) s = (some_used whole s (used_below n st s used), some_inactive whole s (off_below n st s off)) in
+      let may = may_end (with_reclaimers (found names) (found kinds)) m.deed.size (some_state whole) (state_before m) s (state_then m, answer) near idle (made_next m) in
+      let ends = both_same (state_then m, answer) (_, Done) (sym (made_next m) ∙ end_step (with_reclaimers (found names) (found kinds)) m.deed.size (some_state whole) (state_before m) s near idle may) in
+      let others : others_in_use (some_state whole) s ≡ others_in_use st s = others_same whole s ∙ others_below n st s in
+      let many : length (rest_and_batch (some_state whole) s) ≡ length (rest_and_batch st s) = ap length (left_same whole s ∙ ap (map some_value) (left_below n st s)) ∙ length-map (rest_and_batch st s) some_value in (
+        held_made m st (with_number_free st s) _ names kinds holds (free_same whole s ∙ ap some_state (free_below n st s))
+            (subst (λ (k : machine.State). NearAt (with_reclaimers (found names) (found kinds)) [] (with_number_free (some_state whole) s) k) (sym ends.0)
+            (end_near (with_reclaimers (found names) (found kinds)) (some_state whole) (state_before m) s near idle)),
+        which_end (others_in_use st s) (rest_and_batch st s) ((λ i. sym others i || (sym many i == 0)) ∙ may),
+      )
 
   pub takes_held : TakesHeld c.code
-  takes_held st names kinds n kind answer pass pass' m holds used =
+  takes_held st names kinds n kind answer pass pass' m holds used size short =
       let whole : waiting.ModelState T ℕ = with_gone_below holds.gone st in
       let near = near_of st names kinds pass.name pass.seen holds in
-      let ends = take_ends (with_reclaimers (found names) (found kinds)) m.deed.size (some_state whole) (state_before m) (state_then m) n answer kind near (made_next m) used in (
-        ends.0 ∙ least_same whole.slots ∙ least_below holds.gone st.slots,
-        ends.1,
-        held_made m st (with_number_in_use st n kind 0) _ names kinds holds (use_same whole n kind 0 ∙ ap some_state (use_below holds.gone st n kind 0)) ends.2,
+      let played : play st.size (state_before m) (Take n ∷ []) ≡ Some (state_then m, answer ∷ []) =
+      play_first st.size (state_before m) (Take n) [] (state_then m) answer (subst (λ (k : ℕ). next k (state_before m) (Take n) ≡ Some (state_then m, answer)) (m.sized ∙ sym size) (made_next m)) in
+      let short_so : is_full st.size (map some_value st.rest) ≡ false = long_same st.size st.rest ∙ short in
+      let events : IsTaken n (is_full st.size (map some_value st.rest)) (Take n ∷ []) = subst (λ (b : Bool). IsTaken n b (Take n ∷ [])) (sym short_so) ([], refl, refl) in
+      let took = take_list nothing (λ v. 1) nothing_lighter (found names) (found kinds) (some_state whole) (state_before m) n kind (Take n ∷ []) (answer ∷ []) (state_then m) near used events played (tt, tt) in
+      let few : (n == all_numbers) ≡ false = taken_few m.deed.size (state_before m) n (state_then m, answer) (made_next m) in
+      let ends = took.1 (ap (λ (k : ℕ). k == all_numbers) (sym took.0) ∙ few) in (
+        took.0 ∙ least_same whole.slots ∙ least_below holds.gone st.slots,
+        few,
+        held_made m st (with_number_in_use st n kind) _ names kinds holds
+            (ap (λ (o : StateAndGone (Option T) (Option ℕ)). o.0) (taking_rest nothing (λ v. 1) (some_state whole) kind short_so)
+            ∙ ap (λ (k : ℕ). with_number_in_use (some_state whole) k kind) (sym took.0) ∙ use_same whole n kind ∙ ap some_state (use_below holds.gone st n kind)) ends.near,
       )
 
   -- Guards beside others.
@@ -200,14 +220,3 @@ module _ {T : Type 0} (c : Coded T) where
   held_once (Some v) None y a b = absurd a
   held_once (Some v) (Some x) None a b = absurd b
   held_once (Some v) (Some x) (Some y) a b = ap Some (one_lent c v x y a b)
-
--- An owned slot leaves, and its number goes back.
-
-pub owned_leaves_held : {T : Type 0} (c : Coded T) (puts : ℕ → T → List T) (weight : T → ℕ) → Lighter puts weight → OwnedLeavesHeld c puts weight
-owned_leaves_held {T} c puts weight lighter st names kinds answer key pass keys key' mid pass' keys' had' r a kind guards m =
-    let s = slot_number key in let used : is_free (waiting.model_slot st s).kind ≡ false = ap is_free kind in
-    let o = with_further puts weight s (one_guard_less st s) in
-    let parts = parts_held c puts weight lighter st names kinds key pass keys key' mid keys' had' r a used guards in
-    answered c had' pass' (with_number_free o.0 s, o.1) (leave puts weight st s)
-    (not_refused st _ (with_number_free_if (is_owned (waiting.model_slot st s).kind) s o) (guarded st s used (ap (λ (n : ℕ). not (n == 0)) guards)) ∙ ap (λ (k : Kind). (Ok tt, with_number_free_if (is_owned k) s o)) kind)
-    ((parts.0.0.0, parts.0.0.1, gives_held c o.0 parts.0.0.0 parts.0.0.1 s answer mid pass' m parts.0.0.2 parts.1 parts.2), parts.0.1)

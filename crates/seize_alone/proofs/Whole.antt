@@ -2,7 +2,9 @@
 -- goes with what the list says.
 --     AllServe puts of by handed     the numbers that were put with each value stand for what its reclaimer puts
 --     EachSaid log handed            the list says these words of what was put
---     Whole pass pass' s job words had had'     the call of slot s, from its beginning, which says these words, to its return
+--     StaysReady pass ready     it is the same pass, with which nothing was made
+--     Whole pass pass' s event words had had'     the call of slot s, from the event with which it begins, which says these words, to its
+--                                return
 use Rattle.std.proofs.Common.{◌≡◌, ℕ, ◌==◌, Bool, true, false, cond, filter, inl, inr, List, [], ◌∷◌, ◌++◌, Some, refl, sym, ap, subst, ◌∙◌, append_assoc, append-nil}
 use mathlib.Core.List.{IsPrefix}
 use base.Growing.{prefix_trans}
@@ -13,27 +15,30 @@ use Rattle.seize_machine.specs.Machine.Next.{next}
 use Rattle.seize_machine.specs.declared.machine.event.Answer.{Answer}
 use Rattle.seize_machine.specs.declared.machine.event.Answer.TheVariants.{Count, Done, Handed, Head, Illegal, Link}
 use Rattle.seize_machine.specs.declared.machine.event.Job.{Job}
-use Rattle.seize_machine.specs.declared.machine.event.Job.TheVariants.{Flush as FlushJob, Retire as RetireJob}
+use Rattle.seize_machine.specs.declared.machine.event.Job.TheVariants.{Flush as FlushJob, Gather as GatherJob, Retire as RetireJob}
+use Rattle.seize_machine.proofs.Facts.{Step, step_of}
 use Rattle.seize_model.specs.Waiting.Further.{put_by}
-use Rattle.seize_model.specs.Agreement.Events.{ArePutBy, IsJob, IsPutBy, is_return}
+use Rattle.seize_model.specs.Agreement.Events.{ArePutBy, IsPutBy, IsToReturn, is_return}
 use Rattle.seize_model.specs.Agreement.Play.{play}
 use Rattle.seize_model.specs.Agreement.Shows.{StandFor}
-use Rattle.seize_book.specs.Adding.{deed_with_words}
+use Rattle.seize_book.specs.Adding.{deed_with_words, private}
 use Rattle.seize_book.specs.Book.{IsLegalList, after, with_answers}
 use Rattle.seize_book.specs.Entry.{Deed, Entry, Made, Use, Used, maker, timed_deed}
 use Rattle.seize_book.specs.Kept.{AllTold, IsTold, SaysKept, retires_by}
 use Rattle.seize_book.specs.Passes.{IsSamePass, events_by, events_in}
-use Rattle.seize_book.specs.Slots.{slot_number}
+use Rattle.seize_book.specs.Slots.{AddsEvent, slot_number}
 use Rattle.seize_book.specs.Tokens.{IsSole, start}
 use Rattle.seize_book.specs.declared.book.pass.Pass.{Pass}
 use Rattle.seize_book.specs.declared.book.slot_key.SlotKey.{SlotKey}
 use Rattle.seize_book.specs.declared.book.value_keys.ValueKeys.{ValueKeys}
-use Rattle.seize_book.proofs.Facts.{all_told_append, all_told_grow}
+use Rattle.seize_book.proofs.Facts.{all_told_append, all_told_grow, same_twice}
+use Rattle.seize_words.proofs.Facts.{deeds_grew, seen_grows}
 use Rattle.seize_calls.specs.Alone.{AddsAlone, Onward}
-use Rattle.seize_calls.specs.Calls.{BeginsSo, Flushes, Leaves, Rests, RetiresOne, Returns}
+use Rattle.seize_calls.specs.Calls.{BeginsSo, Flushes, Leaves, Rests, Resumes, RetiresOne, Returns}
 use Rattle.seize_calls.specs.Handing.{Had, Handings, HasHad, values_handed}
 use Rattle.seize_calls.specs.Settling.{CallState, done_event}
 use Rattle.seize_calls.specs.Walking.{handed_in, steps}
+use Rattle.seize_calls.proofs.Alone.{alone_none, alone_noted, alone_twice}
 use Rattle.seize_calls.proofs.Events.{same_done}
 use Rattle.seize_calls.proofs.Handed.{had_more, handed_append}
 use Rattle.seize_calls.proofs.Leaving.{left_made}
@@ -170,10 +175,10 @@ module _ {T R : Type 0} (puts : R → T → List T) (of : ℕ → T) (by : ℕ �
 
 -- A whole call: its beginning, its work, and its return.
 
-pub record Whole (pass pass' : Pass) (s : ℕ) (job : Job) (words : List ℕ) (had had' : Had) : Type 0 where
+pub record Whole (pass pass' : Pass) (s : ℕ) (event : Event) (words : List ℕ) (had had' : Had) : Type 0 where
   pub work : List (Deed × Answer)
   pub all_work : AllWork pass.size s work
-  pub made : events_by pass' ≡ events_by pass ++ (deed_with_words pass (Begin s job) words, Done) ∷ (work ++ done_event pass (Return s))
+  pub made : events_by pass' ≡ events_by pass ++ (deed_with_words pass event words, Done) ∷ (work ++ done_event pass (Return s))
   pub handed : Handings
   pub kepts : List ℕ
   pub hands : hands_of work ≡ handed
@@ -183,9 +188,9 @@ pub record Whole (pass pass' : Pass) (s : ℕ) (job : Job) (words : List ℕ) (h
   pub same : IsSamePass pass pass'
   pub alone : AddsAlone pass pass'
 
-module _ {pass pass' : Pass} {s : ℕ} {job : Job} {words : List ℕ} {had had' : Had} (w : Whole pass pass' s job words had had') where
+module _ {pass pass' : Pass} {s : ℕ} {event : Event} {words : List ℕ} {had had' : Had} (w : Whole pass pass' s event words had had') where
   abbrev pub all_made : List (Deed × Answer)
-  all_made = (deed_with_words pass (Begin s job) words, Done) ∷ (w.work ++ done_event pass (Return s))
+  all_made = (deed_with_words pass event words, Done) ∷ (w.work ++ done_event pass (Return s))
 
   pub all_hands : hands_of all_made ≡ w.handed
   all_hands = hands_append w.work (done_event pass (Return s)) ∙ append-nil (hands_of w.work) ∙ w.hands
@@ -197,11 +202,12 @@ module _ {pass pass' : Pass} {s : ℕ} {job : Job} {words : List ℕ} {had had' 
   pub whole_said : EachSaid pass'.seen w.handed
   whole_said = subst (EachSaid pass'.seen) all_hands (each_said pass'.seen all_made all_said)
 
-  pub begin_said : (v k : ℕ) → SaysKept (retires_by (Begin s job)) words v k → IsTold pass'.seen v k
+  pub begin_said : (v k : ℕ) → SaysKept (retires_by event) words v k → IsTold pass'.seen v k
   begin_said = all_said.0
 
-  pub whole_job : IsJob s job (events_made all_made)
-  whole_job = (events_made (w.work ++ done_event pass (Return s)), refl, to_return pass.size s pass w.work w.all_work)
+  -- the event with which it begins, and all to the return
+  pub whole_events : (es : List Event) × (events_made all_made ≡ event ∷ es) × IsToReturn s es
+  whole_events = (events_made (w.work ++ done_event pass (Return s)), refl, to_return pass.size s pass w.work w.all_work)
 
   pub whole_played : IsSole pass.id → IsLegalList (start pass'.name) pass'.seen
       → play pass.size (after (start pass.name) pass.seen) (events_made all_made) ≡ Some (after (start pass'.name) pass'.seen, answers_made all_made)
@@ -232,7 +238,7 @@ module _ (key : SlotKey) (pass : Pass) (job : Job) (words : List ℕ) (had : Had
   abbrev ended : events_by pass' ≡ events_by ended_at.pass ++ returned
   ended = returns.made ∙ ap (λ (log : List (Deed × Answer)). events_by ended_at.pass ++ log) (same_done pass ended_at.pass drained_same Return (slot_number key) (slot_number ended_at.key) (sym returns.keeps.on.its.1 ∙ rests.its.1))
 
-  pub whole : Whole pass pass' (slot_number key) job words had had'
+  pub whole : Whole pass pass' (slot_number key) (Begin (slot_number key) job) words had had'
   whole = record {
     work = its.made;
     all_work = its.work;
@@ -249,20 +255,20 @@ module _ (key : SlotKey) (pass : Pass) (job : Job) (words : List ℕ) (had : Had
   }
 
 pub retired_whole : {key : SlotKey} {pass : Pass} {v kept : ℕ} {keys : ValueKeys} {had : Had} {key' : SlotKey} {pass' : Pass} {keys' : ValueKeys} {had' : Had} {retired : Bool} → RetiresOne key pass v kept keys had key' pass' keys' had' retired
-    → Whole pass pass' (slot_number key) (RetireJob v) (kept ∷ []) had had'
+    → Whole pass pass' (slot_number key) (Begin (slot_number key) (RetireJob v)) (kept ∷ []) had had'
 retired_whole {key} {pass} {v} {kept} {keys} {had} {key'} {pass'} {keys'} {had'} {retired} r =
     let on : Onward r.begun.key r.begun.pass r.settled.key r.settled.pass = round_on r.begun v kept r.settled retired r.drains_one in
     whole key pass (RetireJob v) (kept ∷ []) had key' pass' keys keys' had' r.begun r.ends.drained r.begins (joined (rounded r.begun v kept r.settled retired r.drains_one) (moved on.same.2 on.its.1 (drained r.settled r.ends.drained r.ends.drains.drains))) r.ends.returns r.rests
 
 pub flushed_whole : {key : SlotKey} {pass : Pass} {keys : ValueKeys} {had : Had} {key' : SlotKey} {pass' : Pass} {keys' : ValueKeys} {had' : Had} {retired : Bool} → Flushes key pass keys had key' pass' keys' had' retired
-    → Whole pass pass' (slot_number key) FlushJob [] had had'
+    → Whole pass pass' (slot_number key) (Begin (slot_number key) FlushJob) [] had had'
 flushed_whole {key} {pass} {keys} {had} {key'} {pass'} {keys'} {had'} {retired} r =
     let on : Onward r.begun.key r.begun.pass r.settled.key r.settled.pass = settles_on 1 r.begun r.settled retired r.settles in
     whole key pass FlushJob [] had key' pass' keys keys' had' r.begun r.ends.drained r.begins (joined (settled 1 r.begun r.settled retired r.settles) (moved on.same.2 on.its.1 (drained r.settled r.ends.drained r.ends.drains.drains))) r.ends.returns r.rests
 
 -- a leave, or a refresh
 pub left_whole : {job : Job} {stays : Bool} {swap : Deed} {key : SlotKey} {pass : Pass} {keys : ValueKeys} {had : Had} {key' : SlotKey} {pass' : Pass} {keys' : ValueKeys} {had' : Had} → Leaves job stays swap key pass keys had key' pass' keys' had'
-    → (swap.event ≡ SwapOut (slot_number key)) × (swap.size ≡ pass.size) → Whole pass pass' (slot_number key) job [] had had'
+    → (swap.event ≡ SwapOut (slot_number key)) × (swap.size ≡ pass.size) → Whole pass pass' (slot_number key) (Begin (slot_number key) job) [] had had'
 left_whole {job} {stays} {swap} {key} {pass} {keys} {had} {key'} {pass'} {keys'} {had'} r swaps = record {
   work = (swap, Done) ∷ (walk ++ seg.made);
   all_work = (is_work, work_append pass.size s walk seg.made (steps_work pass s r.walked) seg.work);
@@ -313,3 +319,92 @@ left_whole {job} {stays} {swap} {key} {pass} {keys} {had} {key'} {pass'} {keys'}
 
     is_work : IsWork pass.size s (swap, Done)
     is_work = subst (λ (t : Event × ℕ). (t.1 ≡ pass.size) × (event_slot t.0 ≡ s) × (is_link_event s t.0 ≡ false) × (is_return t.0 ≡ false)) (λ i. (sym swaps.0 i, sym swaps.1 i)) (refl, refl, refl, refl)
+
+-- A call that began to attempt its batch with this event, and went on to its return.
+
+-- the pass may be made ready in between
+pub record StaysReady (pass ready : Pass) : Type 0 where
+  pub same : IsSamePass pass ready
+  pub none : events_by ready ≡ events_by pass
+  pub grows : IsPrefix pass.seen ready.seen
+  pub alone : AddsAlone pass ready
+
+stays : (pass : Pass) → StaysReady pass pass
+stays pass = record { same = (refl, refl, refl); none = refl; grows = ([], append-nil pass.seen); alone = alone_none pass }
+
+take_done : (size s : ℕ) (st : machine.State) (o : machine.State × Answer) → Step size st (Take s) o → o.1 ≡ Done
+take_done size s st _ (Step.took_new _ _ _) = refl
+take_done size s st _ (Step.took_old _ _ _ _) = refl
+
+gather_done : (size s : ℕ) (st : machine.State) (o : machine.State × Answer) → Step size st (Begin s GatherJob) o → o.1 ≡ Done
+gather_done size s st _ (Step.gathered _ _ _ _ _) = refl
+gather_done size s st _ (Step.begun_other _ _ _ _ _ _) = refl
+
+pub resumed_whole : {key : SlotKey} {pass : Pass} {begun : SlotKey} {began ready : Pass} {keys : ValueKeys} {had : Had} {key' : SlotKey} {pass' : Pass} {keys' : ValueKeys} {had' : Had} (event : Event)
+    → ((st : machine.State) (o : machine.State × Answer) → Step pass.size st event o → o.1 ≡ Done) → AddsEvent key pass begun began event → StaysReady began ready → Resumes begun ready keys had key' pass' keys' had' → Whole pass pass' (slot_number key) event [] had had'
+resumed_whole {key} {pass} {begun} {began} {ready} {keys} {had} {key'} {pass'} {keys'} {had'} event always adds readies r = record {
+  work = seg.made;
+  all_work = seg.work;
+  made = r.ends.returns.made ∙ (λ i. seg.events i ++ same_done pass r.ends.drained.pass drained_same Return s (slot_number r.ends.drained.key) drained_its i)
+      ∙ ap (λ (log : List (Deed × Answer)). (log ++ seg.made) ++ returned) (readies.none ∙ deeds_grew pass began (private pass event) adds.0 adds.2.0 ∙ ap (λ (answer : Answer). events_by pass ++ (private pass event, answer) ∷ []) answers)
+      ∙ append_assoc (events_by pass ++ first) seg.made returned ∙ append_assoc (events_by pass) first (seg.made ++ returned);
+  handed = seg.handed;
+  kepts = seg.kepts;
+  hands = seg.hands;
+  has_had = subst (λ (h : Had). HasHad seg.handed seg.kepts had h) (sym r.ends.returns.had_none) seg.has_had;
+  told = all_told_grow r.ends.drained.pass.seen pass'.seen (values_handed seg.handed) seg.kepts r.ends.returns.keeps.on.grows seg.told;
+  grows = prefix_trans pass.seen ready.seen pass'.seen (prefix_trans pass.seen began.seen ready.seen (seen_grows pass.name pass.id pass.seen began.seen (Made (private pass event)) adds.2.0) readies.grows) r.rests.grows;
+  same = same;
+  alone = alone_twice pass ready pass' readied (alone_twice pass began ready adds.0 (alone_noted pass began (Made (private pass event)) refl adds.2.0) readies.alone) r.rests.alone;
+}
+  where
+    s : ℕ
+    s = slot_number key
+
+    readied : IsSamePass pass ready
+    readied = same_twice pass began ready adds.0 readies.same
+
+    at : CallState
+    at = record { key = begun; pass = ready; batch = keys; queue = r.queue; had = had }
+
+    on : Onward begun ready r.settled.key r.settled.pass
+    on = settles_on 0 at r.settled r.retired r.settles
+
+    same : IsSamePass pass pass'
+    same = same_twice pass ready pass' readied r.rests.same
+
+    drained_same : IsSamePass pass r.ends.drained.pass
+    drained_same = (sym r.ends.returns.keeps.on.same.0 ∙ same.0, sym r.ends.returns.keeps.on.same.1 ∙ same.1, sym r.ends.returns.keeps.on.same.2 ∙ same.2)
+
+    drained_its : slot_number r.ends.drained.key ≡ s
+    drained_its = sym r.ends.returns.keeps.on.its.1 ∙ r.rests.its.1 ∙ adds.1.1
+
+    seg : Segment pass.size s ready r.ends.drained.pass had r.ends.drained.had
+    seg = moved readied.2 adds.1.1 (joined (settled 0 at r.settled r.retired r.settles) (moved on.same.2 on.its.1 (drained r.settled r.ends.drained r.ends.drains.drains)))
+
+    answers : adds.2.0.answer ≡ Done
+    answers = always (after (start pass.name) adds.2.0.before) (adds.2.0.later, adds.2.0.answer) (step_of pass.size (after (start pass.name) adds.2.0.before) event (adds.2.0.later, adds.2.0.answer) adds.2.0.does)
+
+    first : List (Deed × Answer)
+    first = done_event pass event
+
+    returned : List (Deed × Answer)
+    returned = done_event pass (Return s)
+
+-- what was left is attempted as a number is taken, or is gathered
+
+pub taken_ready : {key : SlotKey} {pass : Pass} {took : SlotKey} {taken ready : Pass} {keys : ValueKeys} {had : Had} {key' : SlotKey} {pass' : Pass} {keys' : ValueKeys} {had' : Had} → AddsEvent key pass took taken (Take (slot_number key)) → StaysReady taken ready
+    → Resumes took ready keys had key' pass' keys' had' → Whole pass pass' (slot_number key) (Take (slot_number key)) [] had had'
+taken_ready {key} {pass} adds readies r = resumed_whole (Take (slot_number key)) (take_done pass.size (slot_number key)) adds readies r
+
+pub gathered_ready : {key : SlotKey} {pass : Pass} {begun : SlotKey} {began ready : Pass} {keys : ValueKeys} {had : Had} {key' : SlotKey} {pass' : Pass} {keys' : ValueKeys} {had' : Had} → AddsEvent key pass begun began (Begin (slot_number key) GatherJob) → StaysReady began ready
+    → Resumes begun ready keys had key' pass' keys' had' → Whole pass pass' (slot_number key) (Begin (slot_number key) GatherJob) [] had had'
+gathered_ready {key} {pass} adds readies r = resumed_whole (Begin (slot_number key) GatherJob) (gather_done pass.size (slot_number key)) adds readies r
+
+pub taken_whole : {key : SlotKey} {pass : Pass} {took : SlotKey} {taken : Pass} {keys : ValueKeys} {had : Had} {key' : SlotKey} {pass' : Pass} {keys' : ValueKeys} {had' : Had} → AddsEvent key pass took taken (Take (slot_number key)) → Resumes took taken keys had key' pass' keys' had'
+    → Whole pass pass' (slot_number key) (Take (slot_number key)) [] had had'
+taken_whole {key = key} {taken = taken} adds r = taken_ready {key = key} adds (stays taken) r
+
+pub gathered_whole : {key : SlotKey} {pass : Pass} {begun : SlotKey} {began : Pass} {keys : ValueKeys} {had : Had} {key' : SlotKey} {pass' : Pass} {keys' : ValueKeys} {had' : Had} → AddsEvent key pass begun began (Begin (slot_number key) GatherJob) → Resumes begun began keys had key' pass' keys' had'
+    → Whole pass pass' (slot_number key) (Begin (slot_number key) GatherJob) [] had had'
+gathered_whole {key = key} {began = began} adds r = gathered_ready {key = key} adds (stays began) r

@@ -4,8 +4,8 @@
 --     Begun code size n seen uses     a state of this size, with as many links as the book, that the hands hold by names and kinds: its
 --                         slots are used so. A legal list of events leads to it
 --     BeginsHeld          a book of which each slot is used so shows such a state, whichever kinds and numbers of guards these are, where
---                         its list says what is kept of all values that it retires or puts. What is in batches stays there, and retired
---                         batches wait for the slots that list them
+--                         its list says what is kept of all values that it retires or puts. What is in batches or was left stays so,
+--                         and retired batches wait for the slots that list them
 use Rattle.std.specs.Prelude.{◌≡◌, ◌≤◌, ◌==◌, ℕ, not, true, List, length, None}
 use base.Stored.{Gv}
 use Rattle.seize_table.specs.Place.{all_numbers}

@@ -41,6 +41,7 @@ some_state {T} {R} st = record {
   slots = map some_slot st.slots;
   retired = map (λ (vs : List (T × R)). map some_value vs) st.retired;
   links = map (λ (o : Option T). option_map Some o) st.links;
+  rest = map some_value st.rest;
 }
 
 abbrev pub AreLent : {T : Type 0} → (T → Gv) → List (ℕ × T) → Type 0

@@ -2,9 +2,10 @@
 ghost use Rattle.std.specs.Prelude.{ℕ, List};
 ghost use Rattle.seize_model.specs.Waiting.Further.{Lighter};
 ghost use Rattle.seize_alone.specs.Begins.{BeginsHeld};
-ghost use Rattle.seize_alone.specs.Calls.{FlushesHeld, LeavesHeld, OutlineStays, PartsHeld, RefreshesHeld, RetiresHeld, SizeStays};
+ghost use Rattle.seize_alone.specs.Calls.{FlushesHeld, GathersHeld, LeavesHeld, OutlineStays, PartsHeld, RefreshesHeld, RetiresHeld, SizeStays};
+ghost use Rattle.seize_alone.specs.Calls.{TakesFullHeld};
 ghost use Rattle.seize_alone.specs.Reclaiming.{AllGoneHeld, OrderlyHeld, ReclaimsInTurn, SameBelow};
-ghost use Rattle.seize_alone.specs.Events.{EntersHeld, GivesHeld, GuardsHeld, OwnedLeavesHeld, SwapsHeld, TakesHeld};
+ghost use Rattle.seize_alone.specs.Events.{EntersHeld, GivesHeld, GuardsHeld, SwapsHeld, TakesHeld};
 
 /// Calls by which values may be gone, where the pass is alone and its hands hold the state. The answer is the model's, they hold the state
 /// that the model says then, and what the reclaimer had are the model's values gone, in order.
@@ -13,7 +14,8 @@ pub fn calls_alone<T>()
     ensures flush { (puts : ℕ → T → List T) (weight : T → ℕ) → Lighter puts weight → FlushesHeld T.row.coded puts weight }
     ensures part { (puts : ℕ → T → List T) (weight : T → ℕ) → Lighter puts weight → PartsHeld T.row.coded puts weight }
     ensures leave { (puts : ℕ → T → List T) (weight : T → ℕ) → Lighter puts weight → LeavesHeld T.row.coded puts weight }
-    ensures leave_owned { (puts : ℕ → T → List T) (weight : T → ℕ) → Lighter puts weight → OwnedLeavesHeld T.row.coded puts weight }
+    ensures take { (puts : ℕ → T → List T) (weight : T → ℕ) → Lighter puts weight → TakesFullHeld T.row.coded puts weight }
+    ensures gather { (puts : ℕ → T → List T) (weight : T → ℕ) → Lighter puts weight → GathersHeld T.row.coded puts weight }
     ensures refresh { (puts : ℕ → T → List T) (weight : T → ℕ) → Lighter puts weight → RefreshesHeld T.row.coded puts weight }
     ensures size { (puts : ℕ → T → List T) (weight : T → ℕ) → SizeStays puts weight }
     ensures outline { (puts : ℕ → T → List T) (weight : T → ℕ) → OutlineStays puts weight }

@@ -75,9 +75,9 @@ fn fill_a_batch<'a>(
     told: &'a AtomicU64,
 ) -> Result<(), Refusal> {
     let mut heard = Heard { digits: 0 };
-    assert_eq!(rt; alone.register()?, 0);
+    assert_eq!(rt; alone.register(&mut heard)?, 0);
     alone.enter(0)?;
-    assert_eq!(rt; alone.enter_owned()?, 1);
+    assert_eq!(rt; alone.enter_owned(&mut heard)?, 1);
     for digit in 1..4 {
         defer(rt, alone, 0, digit, told, &mut heard)?;
     }
@@ -91,9 +91,9 @@ fn fill_a_batch<'a>(
     assert_eq!(rt; heard.digits, 123);
     alone.refresh(0, &mut heard)?;
     assert_eq!(rt; heard.digits, 1234);
-    assert!(rt; !alone.end(0)?);
+    assert!(rt; !alone.end(0, &mut heard)?);
     alone.leave(0, &mut heard)?;
-    assert!(rt; alone.end(0)?);
+    assert!(rt; alone.end(0, &mut heard)?);
     assert_eq!(rt; told.load(Ordering::SeqCst), 1234);
     Ok(())
 }
@@ -117,7 +117,7 @@ fn leave_two<'a>(
     requires { 0 < alone.old.links }
 {
     let mut heard = Heard { digits: 0 };
-    let slot = alone.register()?;
+    let slot = alone.register(&mut heard)?;
     alone.enter(slot)?;
     let one = alone
         .owned(Digit { digit: 1, told })

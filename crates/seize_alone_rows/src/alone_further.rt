@@ -45,7 +45,7 @@ fn retire_a_tree(
     alone: &mut AloneNests<'_>,
     heard: &mut Heard,
 ) -> Result<(), Refusal> {
-    let s = alone.register()?;
+    let s = alone.register(heard)?;
     let fourth = leaf(alloc, alone, 4)?;
     let second = round(alloc, alone, 2, fourth)?;
     let third = leaf(alloc, alone, 3)?;
@@ -92,7 +92,7 @@ pub(crate) fn retire_a_chain(
     alone: &mut AloneNests<'_>,
     heard: &mut Heard,
 ) -> Result<(), Refusal> {
-    let s = alone.register()?;
+    let s = alone.register(heard)?;
     let first = chain(alloc, alone)?;
     give_sign(alloc)?;
     retire(rt, alone, s, first, heard);
@@ -137,7 +137,7 @@ fn retire_a_wide_value(
     alone: &mut AloneNests<'_>,
     heard: &mut Heard,
 ) -> Result<usize, Refusal> {
-    let s = alone.register()?;
+    let s = alone.register(heard)?;
     let inside = leaves(alloc, alone, 4, MANY)?;
     let first = around(alone, 1, inside)?;
     let second = leaf(alloc, alone, 2)?;
@@ -200,7 +200,7 @@ fn retire_three<'a>(
     alone: &mut Alone<Tree<'a>>,
     ends: &'a AtomicU64,
 ) -> Result<(), Refusal> {
-    let s = alone.enter_owned()?;
+    let s = alone.enter_owned(&mut ())?;
     let third = make_tree(alone, ends, None)?;
     let second = make_tree(alone, ends, Some(third))?;
     let first = make_tree(alone, ends, Some(second))?;

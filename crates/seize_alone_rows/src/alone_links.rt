@@ -63,7 +63,7 @@ fn swap_three(
 ) -> Result<(), Refusal>
     requires { alone.old.links ≡ 2 }
 {
-    assert_eq!(rt; alone.register()?, 0);
+    assert_eq!(rt; alone.register(heard)?, 0);
     assert_eq!(rt; found(alone, 0), Err(Refusal::NotActive));
     alone.enter(0)?;
     assert_eq!(rt; found(alone, 0)?, None);
@@ -93,33 +93,38 @@ fn what_was_swapped_out_is_gone_with_a_refresh(rt: HostRuntime) -> Result<(), Fa
     Ok(())
 }
 
-// A slot with a guard retires a value, flushes or does not, and leaves. It says how many are gone before the leave, and after it.
+// A slot with a guard retires a value beside another slot, flushes or does not, and leaves. It says how many are gone before the leave,
+// after it, and as the other slot ends.
 fn leave_flushed(
     rt: &impl Abort,
     alloc: Global,
     alone: &mut AloneNests<'_>,
     flushes: bool,
     heard: &mut Heard,
-) -> Result<(usize, usize), Refusal> {
-    let s = alone.enter_owned()?;
+) -> Result<[usize; 3], Refusal> {
+    let other = alone.register(heard)?;
+    let s = alone.enter_owned(heard)?;
     retire_new(rt, alloc, alone, s, 7, heard)?;
     if flushes {
         alone.flush(s, heard)?;
     }
     let before = heard.numbers.len();
     alone.leave(s, heard)?;
-    Ok((before, heard.numbers.len()))
+    let between = heard.numbers.len();
+    alone.end(other, heard)?;
+    Ok([before, between, heard.numbers.len()])
 }
 
-// A flush retires a batch that is not yet full, which is gone when its slot leaves. Without one it stays in the slot's batch.
+// A flush retires a batch that is not yet full, which is gone when its slot leaves. Without one the slot hands it on as it ends, and it is
+// gone as the last slot does.
 #[test]
 fn a_flushed_batch_is_gone_with_the_leave(rt: HostRuntime) -> Result<(), Fail> {
-    for (flushes, after) in [(true, 1), (false, 0)] {
+    for (flushes, between) in [(true, 1), (false, 0)] {
         let ends = Ends::with_room(rt.alloc(), 1)?;
         let mut heard = Heard::with_room(rt.alloc(), 1)?;
         let mut alone = alone_nests(rt.alloc(), 9, 0, &ends)?;
         let gone = leave_flushed(&rt, rt.alloc(), &mut alone, flushes, &mut heard)?;
-        assert_eq!(rt; gone, (0, after));
+        assert_eq!(rt; gone, [0, between, 1]);
         drop(alone);
         assert!(rt; ends.are(&[7]));
     }
@@ -133,7 +138,7 @@ fn leave_twice(
     alone: &mut AloneNests<'_>,
     heard: &mut Heard,
 ) -> Result<(), Refusal> {
-    let s = alone.register()?;
+    let s = alone.register(heard)?;
     for number in 1..3 {
         alone.enter(s)?;
         retire_new(rt, alloc, alone, s, number, heard)?;
@@ -162,7 +167,7 @@ fn retire_four(
     alone: &mut AloneNests<'_>,
     heard: &mut Heard,
 ) -> Result<(), Refusal> {
-    let s = alone.register()?;
+    let s = alone.register(heard)?;
     for number in 0..4 {
         retire_new(rt, alloc, alone, s, number, heard)?;
     }

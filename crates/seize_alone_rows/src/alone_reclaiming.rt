@@ -22,10 +22,10 @@ fn forget_one(
     alone: &mut AloneNests<'_>,
     heard: &mut Heard,
 ) -> Result<(), Refusal> {
-    assert_eq!(rt; alone.enter_owned()?, 0);
+    assert_eq!(rt; alone.enter_owned(heard)?, 0);
     for _ in 0..2u8 {
-        assert_eq!(rt; alone.register()?, 1);
-        assert!(rt; alone.end(1)?);
+        assert_eq!(rt; alone.register(heard)?, 1);
+        assert!(rt; alone.end(1, heard)?);
     }
     retire_new(rt, alloc, alone, 0, 7, heard)
 }
@@ -41,7 +41,7 @@ fn a_forgotten_guard_keeps_its_number_until_all_is_reclaimed(rt: HostRuntime) ->
     alone.reclaim_all(&mut heard);
     assert_eq!(rt; heard.numbers.as_slice(), [7].as_slice());
     assert!(rt; ends.are(&[7]));
-    assert_eq!(rt; alone.register()?, 0);
+    assert_eq!(rt; alone.register(&mut heard)?, 0);
     drop(alone);
     assert!(rt; ends.are(&[7]));
     Ok(())
@@ -58,7 +58,7 @@ fn fill_two_batches(
     requires { alone.old.links ≡ 1 }
     ensures { IsSame alone.old alone.new }
 {
-    assert_eq!(rt; (alone.register()?, alone.register()?), (0, 1));
+    assert_eq!(rt; (alone.register(heard)?, alone.register(heard)?), (0, 1));
     alone.enter(0)?;
     let ninth = leaf(alloc, alone, 9)?;
     match alone.swap(0, 0, Some(ninth)) {
@@ -82,7 +82,7 @@ fn found(alone: &mut AloneNests<'_>, heard: &mut Heard) -> Result<Option<u64>, R
     requires { alone.old.links ≡ 1 }
     ensures { IsSame alone.old alone.new }
 {
-    let s = alone.enter_owned()?;
+    let s = alone.enter_owned(heard)?;
     let found = number_in(alone, s, 0)?;
     alone.leave(s, heard)?;
     Ok(found)
@@ -143,7 +143,7 @@ fn retire_digit<'a>(
     digit: u64,
     told: &'a AtomicU64,
 ) -> Result<(), Refusal> {
-    let s = alone.enter_owned()?;
+    let s = alone.enter_owned(&mut ())?;
     let owned = alone
         .owned(Digit { digit, told })
         .map_err(|(refusal, _)| refusal)?;
@@ -154,7 +154,7 @@ fn retire_digit<'a>(
     }
 }
 
-// A guard of a thread's registration retires a value of this digit.
+// A guard of a thread's registration retires a value of this digit. The registration is forgotten then.
 fn retire_shared<'a>(
     rt: &(impl Wait + Abort),
     collector: &Telling<'a>,
@@ -165,7 +165,7 @@ fn retire_shared<'a>(
     let registration = collector.register(rt, &mut pass).expect(rt, "memory");
     assert_eq!(rt; registration.thread_id(), 0);
     defer_alone(rt, &registration, digit, told, &mut pass);
-    assert!(rt; registration.end(rt, &mut pass));
+    registration.forget();
 }
 
 // All is reclaimed, and then again with another value.

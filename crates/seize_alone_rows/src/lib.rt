@@ -7,6 +7,8 @@ mod alone;
 #[cfg(test)]
 mod alone_further;
 #[cfg(test)]
+mod alone_left;
+#[cfg(test)]
 mod alone_links;
 #[cfg(test)]
 mod alone_lists;

@@ -35,7 +35,7 @@ fn retire_three<'a>(
     heard: &mut Heard,
 ) -> Result<AloneNests<'a>, Refusal> {
     let mut alone = alone;
-    let slot = alone.register()?;
+    let slot = alone.register(heard)?;
     retire_new(rt, alloc, &mut alone, slot, 1, heard)?;
     retire_new(rt, alloc, &mut alone, slot, 2, heard)?;
     assert_eq!(rt; heard.numbers.len(), 0);

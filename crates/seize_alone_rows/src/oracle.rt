@@ -39,6 +39,8 @@ pub(crate) struct Lists {
     alloc: Global,
     size: usize,
     slots: Vec<Slot>,
+    // What slots had in their batches as they ended, in order.
+    rest: Vec<Value>,
     retired: Vec<Vec<Value>>,
     links: Vec<Option<u64>>,
     // What each value holds inside, by its number.
@@ -54,6 +56,7 @@ impl Lists {
             alloc,
             size,
             slots: Vec::new(alloc),
+            rest: Vec::new(alloc),
             retired: Vec::new(alloc),
             links: Vec::new(alloc),
             inside: Vec::new(alloc),
@@ -124,7 +127,7 @@ impl Lists {
         }
     }
 
-    // The least number not in use is used so.
+    // The least number not in use is used so, and what slots left is its batch, which is attempted where it is full.
     fn take(&mut self, by: Use, guards: u64) -> Result<usize, Refusal> {
         let alloc = self.alloc;
         let free = self.slots.iter().position(|slot| slot.by == Use::Nobody);
@@ -133,7 +136,7 @@ impl Lists {
             None => {
                 let slot = Slot {
                     by,
-                    guards,
+                    guards: 0,
                     batch: Vec::new(alloc),
                     waiting: Vec::new(alloc),
                 };
@@ -141,8 +144,56 @@ impl Lists {
                 self.slots.len() - 1
             }
         };
+        self.set(s, by, 0);
+        self.gather(s)?;
+        let from = self.gone.len();
+        self.attempt_if_full(s)?;
+        self.settle(s, from)?;
         self.set(s, by, guards);
         Ok(s)
+    }
+
+    // What slots left comes before the batch of the slot, and is in it.
+    fn gather(&mut self, s: usize) -> Result<(), Refusal> {
+        if let Some(slot) = self.slots.get_mut(s) {
+            let batch = mem::replace(
+                &mut slot.batch,
+                mem::replace(&mut self.rest, Vec::new(self.alloc)),
+            );
+            slot.batch.extend_from_slice(batch.as_slice())?;
+        }
+        Ok(())
+    }
+
+    // Whether the slot is the last one in use, and something is left, or in its batch.
+    fn gathers(&self, s: usize) -> bool {
+        let others = self
+            .slots
+            .iter()
+            .enumerate()
+            .any(|(n, slot)| n != s && slot.by != Use::Nobody);
+        let none = self.slots.get(s).is_none_or(|slot| slot.batch.is_empty());
+        !others && !(none && self.rest.is_empty())
+    }
+
+    // The number of the slot, which has no guard, goes back. The last one in use attempts what slots left and its batch first, again and
+    // again, until nothing is left. Each value is gone once, so it does so no oftener than there are values. What is in its batch is left.
+    fn give_back(&mut self, s: usize) -> Result<(), Refusal> {
+        for _ in 0..self.inside.len() {
+            if !self.gathers(s) {
+                break;
+            }
+            self.gather(s)?;
+            let from = self.gone.len();
+            self.attempt(s)?;
+            self.settle(s, from)?;
+        }
+        if let Some(slot) = self.slots.get_mut(s) {
+            let batch = mem::replace(&mut slot.batch, Vec::new(self.alloc));
+            self.rest.extend_from_slice(batch.as_slice())?;
+        }
+        self.set(s, Use::Nobody, 0);
+        Ok(())
     }
 
     // The retired batch is gone, if it waits for no slot.
@@ -189,17 +240,22 @@ impl Lists {
         self.release(batch)
     }
 
+    // The batch of the slot is attempted where it is full.
+    fn attempt_if_full(&mut self, s: usize) -> Result<(), Refusal> {
+        let size = max(1, self.size);
+        match self.slots.get(s) {
+            Some(slot) if slot.batch.len() >= size => self.attempt(s),
+            _ => Ok(()),
+        }
+    }
+
     // The value joins the batch of the slot, which is attempted where it is full.
     fn put(&mut self, s: usize, value: Value) -> Result<(), Refusal> {
-        let size = max(1, self.size);
         let Some(slot) = self.slots.get_mut(s) else {
             return Ok(());
         };
         slot.batch.push(value).map_err(AllocError::from)?;
-        if slot.batch.len() < size {
-            return Ok(());
-        }
-        self.attempt(s)
+        self.attempt_if_full(s)
     }
 
     // What the value with this place among those that are gone holds, as of its kind. It is none where no value has that place.
@@ -241,7 +297,7 @@ impl Lists {
         if self.registered(s)? > 0 {
             return Ok(false);
         }
-        self.set(s, Use::Nobody, 0);
+        self.give_back(s)?;
         Ok(true)
     }
 
@@ -256,7 +312,7 @@ impl Lists {
         self.part(s)?;
         self.settle(s, from)?;
         if by == Use::Owned {
-            self.set(s, Use::Nobody, 0);
+            self.give_back(s)?;
         }
         Ok(())
     }
@@ -308,7 +364,8 @@ impl Lists {
         Ok(old)
     }
 
-    /// As the collector's: each slot parts, and its number is free; then each batch is gone; then what the values gone hold, in turn.
+    /// As the collector's: each slot parts, and its number is free; then each batch is gone, and what slots left; then what the values gone
+    /// hold, in turn.
     pub(crate) fn reclaim_all(&mut self) -> Result<(), Refusal> {
         let from = self.gone.len();
         for s in 0..self.slots.len() {
@@ -319,6 +376,8 @@ impl Lists {
             let values = mem::replace(&mut slot.batch, Vec::new(self.alloc));
             self.gone.extend_from_slice(values.as_slice())?;
         }
+        let rest = mem::replace(&mut self.rest, Vec::new(self.alloc));
+        self.gone.extend_from_slice(rest.as_slice())?;
         self.retired.clear();
         self.drain(from)
     }

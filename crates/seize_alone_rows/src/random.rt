@@ -132,15 +132,15 @@ fn call(
 {
     match chance.below(12) {
         0 if lists.has_number(SLOTS) => {
-            Ok(("register", same(&alone.register(), &lists.register())?))
+            Ok(("register", same(&alone.register(heard), &lists.register())?))
         }
         1 if lists.has_number(SLOTS) => Ok((
             "enter_owned",
-            same(&alone.enter_owned(), &lists.enter_owned())?,
+            same(&alone.enter_owned(heard), &lists.enter_owned())?,
         )),
         2 | 3 => Ok(("enter", same(&alone.enter(s), &lists.enter(s))?)),
         4..8 => Ok(("leave", same(&alone.leave(s, heard), &lists.leave(s))?)),
-        8 => Ok(("end", same(&alone.end(s), &lists.end(s))?)),
+        8 => Ok(("end", same(&alone.end(s, heard), &lists.end(s))?)),
         9 => Ok((
             "refresh",
             same(&alone.refresh(s, heard), &lists.refresh(s))?,
@@ -194,7 +194,7 @@ fn reclaim(
 {
     alone.reclaim_all(heard);
     lists.reclaim_all()?;
-    let (s, wanted) = (alone.enter_owned()?, lists.enter_owned()?);
+    let (s, wanted) = (alone.enter_owned(heard)?, lists.enter_owned()?);
     let mut well = s == wanted;
     for link in 0..LINKS {
         let found = number_in(alone, s, link);

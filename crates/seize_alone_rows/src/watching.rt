@@ -75,7 +75,7 @@ fn retire_three(
     alone: &mut Alone<u64, Logging<'_>>,
 ) -> Result<(), Fail> {
     let mut noting = Noting { log };
-    let slot = alone.register()?;
+    let slot = alone.register(&mut noting)?;
     retire(rt, alone, slot, 1, &mut noting)?;
     assert_eq!(rt; log.load(Ordering::SeqCst), 0);
     retire(rt, alone, slot, 2, &mut noting)?;

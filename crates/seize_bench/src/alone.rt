@@ -60,7 +60,7 @@ pub(crate) fn measure<R: Clock + CpuClock>(
     samples: &mut Samples,
 ) -> io::Result<()> {
     let mut alone = alone(alloc).map_err(refused)?;
-    let slot = alone.register().map_err(refused)?;
+    let slot = alone.register(&mut ()).map_err(refused)?;
     for _ in 0..RUNS {
         let span = Span::begun(rt)?;
         let sum = update_many(&mut alone, slot).map_err(refused)?;

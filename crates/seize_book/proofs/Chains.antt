@@ -6,7 +6,7 @@ use Rattle.std.proofs.lemmas.Bool.{cases_lt}
 use native.Mathlib.Decide.{ℕ_discrete}
 use Rattle.seize_machine.specs.Machine.State.{State, Slot, Progress, Head, Inactive, Active, Place, Mark, Out, Rest, no_slot, slot_at, head_at, waiting_at, is_active, opening}
 use Rattle.seize_machine.specs.Machine.Event.{Event}
-use Rattle.seize_machine.specs.Machine.Next.{look, looked, marked_place}
+use Rattle.seize_machine.specs.Machine.Next.{look, looked, marked_place, taken_call}
 use Rattle.seize_machine.specs.Machine.History.{IsReached, first_or_none}
 use Rattle.seize_machine.specs.Machine.Laws.{walk_of, Lists, Walks}
 use Rattle.seize_machine.specs.Machine.Frames.{changes_head_of}
@@ -16,6 +16,7 @@ use Rattle.seize_machine.proofs.Facts.{Step, Stands, some_is, head_frame, held_f
 use Rattle.seize_book.specs.Blocks.{Plan, no_plan, planned_by, block_number, plan_value, list_word}
 use Rattle.seize_book.specs.Chains.{next_field, first_field, insertion_value, FieldsLeadOn, IsChain, HasChains, Leads}
 use Rattle.seize_book.specs.Homes.{home_of}
+use Rattle.seize_book.proofs.Lists.{taken_either}
 use Rattle.seize_book.proofs.Plans.{AllLess, has_values, tried_there, waiting_there}
 
 -- Batches that a call walks were detached: they are held, so they have values.
@@ -66,9 +67,9 @@ each_set P xs s x past old new m = go (ℕ_discrete m s)
     go (yes e) = subst (λ (k : ℕ). P k (get_or (set xs s x) k past)) (sym e) (within (cases_lt s (length xs)))
     go (no d) = subst (P m) (sym (get_or-set_other xs s m x past d)) (old m)
 
--- a slot that is added has no call
-added_walk : (P : List ℕ → Type 0) (slots : List Slot) (x : Slot) (m : ℕ) → x.call ≡ Option.None → P (walk_of (get_or slots m no_slot).call) → P (walk_of (get_or (slots ++ x ∷ []) m no_slot).call)
-added_walk P [] x zero none old = subst (λ (o : Option Progress). P (walk_of o)) (sym none) old
+-- a slot that is added has nothing to walk
+added_walk : (P : List ℕ → Type 0) (slots : List Slot) (x : Slot) (m : ℕ) → walk_of x.call ≡ [] → P (walk_of (get_or slots m no_slot).call) → P (walk_of (get_or (slots ++ x ∷ []) m no_slot).call)
+added_walk P [] x zero none old = subst P (sym none) old
 added_walk P [] x (suc m) none old = old
 added_walk P (y ∷ slots) x zero none old = old
 added_walk P (y ∷ slots) x (suc m) none old = added_walk P slots x m none old
@@ -77,6 +78,9 @@ added_walk P (y ∷ slots) x (suc m) none old = added_walk P slots x m none old
 
 abbrev walk_at : Place → List ℕ
 walk_at place = walk_of (Some (record { place = place; queue = [] }))
+
+taken_walk : (size slots : ℕ) (batch : List ℕ) → walk_of (taken_call size slots batch) ≡ []
+taken_walk size slots batch = taken_either (λ (o : Option Progress). walk_of o ≡ []) size slots batch refl refl
 
 begun_walk : (place : Place) (slots : ℕ) → (place ≡ Rest [] []) ⊎ (place ≡ Mark 0 slots []) ⊎ (place ≡ Out true) ⊎ (place ≡ Out false) → walk_at place ≡ []
 begun_walk place slots (inl p) = ap walk_at p
@@ -133,9 +137,10 @@ module _ (size : ℕ) (st : State) (ps : List Plan) (told : ℕ → ℕ) (r : Is
     none s bs empty = subst (Led ps told s) (sym empty) (tt, tt)
 
     walks_step : (event : Event) (d : State × Answer) → Step size st event d → (m : ℕ) → Led ps told m (walk_of (slot_at d.0 m).call)
-    walks_step event _ (Step.took_new s is free) m = added_walk (Led ps told m) st.slots _ m refl (walks m)
-    walks_step event _ (Step.took_old s there off free) m = by_call s _ (walks s) m
-    walks_step event _ (Step.gave s idle off) m = by_call s _ (walks s) m
+    walks_step event _ (Step.took_new s is free) m = added_walk (Led ps told m) st.slots _ m (taken_walk size (length st.slots + 1) st.rest) (walks m)
+    walks_step event _ (Step.took_old s there off free) m = by_call s _ (none s _ (taken_walk size (length st.slots) st.rest)) m
+    walks_step event _ (Step.gave s idle off ends) m = by_call s _ (tt, tt) m
+    walks_step event _ (Step.gathered s idle off alone some) m = by_call s _ (tt, tt) m
     walks_step event _ (Step.entered s idle off) m = walks m
     walks_step event _ (Step.begun_retire s v idle may) m = by_call s _ (tt, tt) m
     walks_step event _ (Step.begun_other s job place idle which may) m = by_call s _ (none s (walk_at place) (begun_walk place (length st.slots) which)) m

@@ -7,16 +7,16 @@ use Rattle.std.proofs.lemmas.Bool.{cases_lt}
 use native.Mathlib.Decide.{ℕ_discrete}
 use Rattle.seize_machine.specs.Machine.State.{State, Slot, Batch, Progress, Head, Inactive, Active, Place, Append, Mark, Add, Out, Rest, no_slot, no_batch, slot_at, head_at, batch_at, is_active, is_idle}
 use Rattle.seize_machine.specs.Machine.Event.{Event, AddCount, SubCount}
-use Rattle.seize_machine.specs.Machine.Next.{next, scheme, of_call, moved, moved_call, walked_on, look, looked, marked_place, adding_at, add_count, walking_at, sub_count, is_zero}
+use Rattle.seize_machine.specs.Machine.Next.{next, scheme, of_call, moved, moved_call, walked_on, look, looked, marked_place, taken_slot, taken_call, adding_at, add_count, walking_at, sub_count, is_zero}
 use Rattle.seize_machine.specs.Machine.History.{IsReached}
 use Rattle.seize_machine.specs.Machine.Laws.{added_batch, detached_by}
 use Rattle.seize_machine.specs.Machine.Frames.{changes_batch, is_number as is_that}
 use Rattle.seize_machine.specs.declared.machine.event.Answer.{Answer}
 use Rattle.seize_machine.specs.declared.machine.event.Answer.TheVariants.{Count}
-use Rattle.seize_machine.proofs.Facts.{Step, Stands, some_is, step_of, one_owner, arrives_unheld}
+use Rattle.seize_machine.proofs.Facts.{Step, Stands, some_is, step_of, one_owner, arrives_unheld, free_empty}
 use Rattle.seize_book.specs.Homes.{HasOne, changes_count, is_in, is_batch_in}
 use Rattle.seize_book.specs.Deposits.{is_number, is_with_call, deposit_from, deposit}
-use Rattle.seize_book.proofs.Lists.{equal, unequal}
+use Rattle.seize_book.proofs.Lists.{equal, taken_either, unequal}
 use Rattle.seize_book.proofs.Counts.{come, still_out, others_out, in_range, zero_is}
 use Rattle.seize_book.proofs.Serves.{at_set, at_push}
 
@@ -91,6 +91,9 @@ put_owner from before queue v after (inr e) = ap (λ (p : Place). owner p queue)
 filled_owner : (n : ℕ) (place : Place) (queue : List ℕ) (P : Type 0) → ((place ≡ Rest [] []) × P) ⊎ (place ≡ Mark 0 n []) → owner place queue ≡ None
 filled_owner n place queue P (inl e) = ap (λ (p : Place). owner p queue) e.0
 filled_owner n place queue P (inr e) = ap (λ (p : Place). owner p queue) e
+
+taken_owner : (size slots : ℕ) (batch : List ℕ) → detached_by (taken_call size slots batch) ≡ None
+taken_owner size slots batch = taken_either (λ (o : Option Progress). detached_by o ≡ None) size slots batch refl refl
 
 idle_owner : (slot : Slot) → is_idle slot ≡ true → detached_by slot.call ≡ None
 idle_owner slot idle = go slot.call refl
@@ -192,10 +195,13 @@ detached_on k st s new batch within free owner = all_same st (record st { slots 
 
 pub deposit_frame : (k size : ℕ) (st : State) (event : Event) (d : State × Answer) → IsReached st → Step size st event d → changes_count st k event ≡ false → deposit d.0 k ≡ deposit st k
 deposit_frame k size st event _ r (Step.took_new s e least) h =
-    let new : Slot = record { used = true; batch = []; call = None } in
-    all_same st (record st { slots = st.slots ++ new ∷ [] }) k (λ b. share_same st.slots (st.slots ++ new ∷ []) k b (batch_at st b) (owned_push b st.slots new refl))
-deposit_frame k size st event _ r (Step.took_old s within e least) h = led_on k st s (record (slot_at st s) { used = true }) refl
-deposit_frame k size st event _ r (Step.gave s e off) h = led_on k st s (record (slot_at st s) { used = false }) refl
+    let new : Slot = taken_slot size (length st.slots + 1) st.rest in
+    all_same st (record st { slots = st.slots ++ new ∷ [] }) k
+    (λ b. share_same st.slots (st.slots ++ new ∷ []) k b (batch_at st b) (owned_push b st.slots new (ap (is_number b) (taken_owner size (length st.slots + 1) st.rest))))
+deposit_frame k size st event _ r (Step.took_old s within e least) h =
+    led_on k st s (taken_slot size (length st.slots) st.rest) (taken_owner size (length st.slots) st.rest ∙ sym (ap (λ (slot : Slot). detached_by slot.call) (free_empty st r s e).0))
+deposit_frame k size st event _ r (Step.gave s e off ends) h = led_on k st s no_slot (sym (idle_owner (slot_at st s) e))
+deposit_frame k size st event _ r (Step.gathered s e off alone some) h = led_on k st s _ (sym (idle_owner (slot_at st s) e))
 deposit_frame k size st event _ r (Step.begun_retire s v e new) h = led_on k st s _ (sym (idle_owner (slot_at st s) e))
 deposit_frame k size st event _ r (Step.begun_other s job place e which exact) h = led_on k st s _ (begun_owner (length st.slots) place [] which ∙ sym (idle_owner (slot_at st s) e))
 deposit_frame k size st event _ r (Step.put s v from before after place e which to after_is) h =

@@ -27,9 +27,9 @@ pub use Rattle.seize_book.proofs.Written.{plans_used, told_other, told_push}
 pub use Rattle.seize_book.proofs.Private.{after_one, differ, makes_none, no_place, one_kept, one_within, only, only_is, same_kind}
 -- how an event of a slot moves what its key knows
 pub use Rattle.seize_book.proofs.Moves.{moves}
--- which numbers are in use when one is given back
-pub use Rattle.seize_book.proofs.Gives.{free_by, the_only}
--- and when one is taken again
+-- which number is free, and whether another one is in use, by which are in use;  of the numbers there is one key
+pub use Rattle.seize_book.proofs.Gives.{free_by, others_by, the_only}
+-- a number may be taken again
 pub use Rattle.seize_book.proofs.Numbers.{may_take_by}
 -- keys of blocks, and what they know later
 pub use Rattle.seize_book.proofs.Values.{blocks_later, blocks_within, keys_later, labels_append, labels_later, none_of}

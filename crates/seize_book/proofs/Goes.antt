@@ -5,7 +5,7 @@ use Rattle.seize_machine.specs.Machine.State.{State, slot_at, head_at, link_at, 
 use Rattle.seize_machine.specs.Machine.Event.{Event}
 use Rattle.seize_machine.specs.Machine.Frames.{used, slots_added}
 use Rattle.seize_machine.specs.declared.machine.event.Answer.{Answer}
-use Rattle.seize_machine.proofs.Facts.{step_of, slot_frame, active_frame, head_frame, link_frame, used_frame, value_frame, slots_length, links_length}
+use Rattle.seize_machine.proofs.Facts.{step_of, slot_frame, active_frame, head_frame, link_frame, rest_frame, used_frame, value_frame, slots_length, links_length}
 use Rattle.seize_book.specs.Ledger.{HeldKey, Known, Goes, AllThere, AllBelow, AreNextNumbers, more_of, more_by}
 use Rattle.seize_book.specs.Blocks.{plans}
 use Rattle.seize_book.specs.Chains.{IsLed, field_value}
@@ -19,6 +19,7 @@ use Rattle.seize_book.proofs.Counts.{count_frame}
 use Rattle.seize_book.proofs.Deposits.{deposit_frame}
 use Rattle.seize_book.proofs.Homes.{home_value}
 use Rattle.seize_book.proofs.Lists.{legal_push, after_push, after_used, reached_after, selected_out}
+use Rattle.seize_book.proofs.Private.{none_used}
 use Rattle.seize_book.proofs.Sound.{sound_push}
 pub use Rattle.seize_book.proofs.Written.{chained_push}
 use Rattle.seize_book.proofs.Written.{told_same, written_by_event, written_by_use}
@@ -40,7 +41,10 @@ module _ (n : Name) (distinct : are_distinct (linked_values n.links) ≡ true) w
       → touches (after st log) (Made x) kind k ≡ false → Same st kind k own log → Same st kind k own (log ++ Made x ∷ [])
   by_event log own x d ThePass p l h t s = s ∙ sym (selected_out (λ a. maker a.0 == p) st log (Made x) d h t)
   by_event log own x d TheNumbers k l h t s =
-      s ∙ sym (ap used (after_push st log (Made x) d l h) ∙ used_frame x.size (after st log) x.event d (step_of _ _ _ _ h) t)
+      let then_ = after_push st log (Made x) d l h in let step = step_of x.size (after st log) x.event d h in (
+        s.0 ∙ sym (ap used then_ ∙ used_frame x.size (after st log) x.event d step (none_used x.event t)),
+        s.1 ∙ sym (ap (λ (z : State). z.rest) then_ ∙ rest_frame x.size (after st log) x.event d step t),
+      )
   by_event log own x d TheSlot k l h t s =
       let then_ = after_push st log (Made x) d l h in let step = step_of x.size (after st log) x.event d h in (
         s.0 ∙ sym (selected_out (λ a. acts k a.0) st log (Made x) d h t),
@@ -72,7 +76,8 @@ module _ (n : Name) (distinct : are_distinct (linked_values n.links) ≡ true) w
   by_use : (log own : List Entry) (u : Use) (d : State × Answer) (kind : Kind) (k : ℕ) → IsLegalList st log → HasOne (after st log) → IsLed (after st log) (plans st log) (field_value log) (Used u) → Does st log (Used u) d
       → touches (after st log) (Used u) kind k ≡ false → Same st kind k own log → Same st kind k own (log ++ Used u ∷ [])
   by_use log own u d ThePass p l one led h t s = s ∙ sym (selected_out (λ a. maker a.0 == p) st log (Used u) d h t)
-  by_use log own u d TheNumbers k l one led h t s = s ∙ sym (ap used (after_used st log u))
+  by_use log own u d TheNumbers k l one led h t s =
+      let same = sym (after_used st log u) in (s.0 ∙ ap used same, s.1 ∙ ap (λ (z : State). z.rest) same)
   by_use log own u d TheSlot k l one led h t s = (
     s.0 ∙ sym (selected_out (λ a. acts k a.0) st log (Used u) d h t),
     s.1 ∙ sym (ap (λ (z : State). slot_at z k) (after_used st log u)),
@@ -96,7 +101,7 @@ module _ (n : Name) (distinct : are_distinct (linked_values n.links) ≡ true) w
 
 same_now : (st : State) (kind : Kind) (k : ℕ) (log : List Entry) → Same st kind k log log
 same_now st ThePass p log = refl
-same_now st TheNumbers k log = refl
+same_now st TheNumbers k log = (refl, refl)
 same_now st TheSlot s log = (refl, refl, refl, refl)
 same_now st TheHead m log = refl
 same_now st TheLink l log = refl
@@ -205,7 +210,7 @@ Can n held seen ev Told = (log : List Entry) → Known (rules (start n)) held se
 abbrev pub births_of : State → (List Entry → Entry) → List Entry → List (ℕ × ℕ)
 births_of st ev log = births_by (after st log) (ev log)
 
-prefix_push : (own log : List Entry) (e : Entry) → IsPrefix own log → IsPrefix own (log ++ e ∷ [])
+pub prefix_push : (own log : List Entry) (e : Entry) → IsPrefix own log → IsPrefix own (log ++ e ∷ [])
 prefix_push own log e p = (p.0 ++ e ∷ [], sym (append_assoc own p.0 (e ∷ [])) ∙ ap (λ (l : List Entry). l ++ e ∷ []) p.1)
 
 pub goes : (n : Name) → are_distinct (linked_values n.links) ≡ true → (held : List (HeldKey Entry)) (seen : List Entry) (ev : List Entry → Entry) (Told : List Entry → Type 0) → Can n held seen ev Told

@@ -11,7 +11,7 @@ use Rattle.seize_book.specs.Homes.{home_of, is_home, changes_home}
 use Rattle.seize_table.specs.Pairs.{left_of, pair, right_of}
 use Rattle.seize_table.proofs.Pairs.{left_pair, past, right_pair}
 use Rattle.seize_book.specs.Blocks.{block_number}
-use Rattle.seize_book.specs.Loans.{cell_of, loan_of, place_of, rest_of}
+use Rattle.seize_book.specs.Loans.{beside_of, cell_of, loan_of, place_of}
 use Rattle.seize_book.proofs.Lists.{equal, unequal}
 
 -- each home has values with any block's number, any place, any cell and anything that is lent with them, past any bound
@@ -21,7 +21,7 @@ another_with k place carried cell p bound small =
     let inner : ℕ = pair cell bound in let turn : ℕ = pair carried inner in let rest : ℕ = pair place turn in let w : ℕ = pair k rest in let v : ℕ = w * 2 ^ 64 + p in
     let above : v / 2 ^ 64 ≡ w = omega (arith, small) in
     let least : bound ≤ inner = past cell bound in let last : inner ≤ turn = past carried inner in let middle : turn ≤ rest = past place turn in let first : rest ≤ w = past k rest in
-    let its_rest : rest_of v ≡ rest = ap right_of above ∙ right_pair k rest in (
+    let its_rest : beside_of v ≡ rest = ap right_of above ∙ right_pair k rest in (
       v,
       ap left_of above ∙ left_pair k rest,
       omega (arith, small),

@@ -1,10 +1,10 @@
 -- The book, with one entry more.
-use Rattle.std.proofs.Common.{◌≢◌, arith, ◌≡◌, ℕ, Bool, true, false, cond, ◌==◌, List, [], ◌∷◌, ◌++◌, filter, map, refl, sym, ◌∙◌, ap, subst, append_assoc, append-nil}
+use Rattle.std.proofs.Common.{◌≢◌, arith, ◌≡◌, ℕ, Bool, true, false, cond, ◌==◌, if◌then◌else◌, nat_le, max, List, [], ◌∷◌, ◌++◌, length, filter, map, Option, Some, None, refl, sym, ◌∙◌, ap, subst, append_assoc, append-nil}
 use mathlib.Core.List.{IsPrefix, append_cancel_left, cons≢nil}
 use Rattle.std.proofs.lemmas.List.{map-append}
 use Rattle.std.proofs.lemmas.List.Elements.{filter-append}
-use Rattle.seize_machine.specs.Machine.State.{State, linked_values, are_distinct}
-use Rattle.seize_machine.specs.Machine.Next.{next}
+use Rattle.seize_machine.specs.Machine.State.{State, Progress, Mark, linked_values, are_distinct}
+use Rattle.seize_machine.specs.Machine.Next.{next, taken_call}
 use Rattle.seize_machine.specs.Machine.History.{Timed, IsReached, done_by, or_illegal, Legal, answers_of, are_legal, end_of, history}
 use Rattle.seize_machine.specs.declared.machine.event.Answer.{Answer}
 use Rattle.seize_machine.specs.declared.machine.event.Answer.TheVariants.{Done}
@@ -51,6 +51,14 @@ after_push st log (Used u) d l h = after_used st log u ∙ ap (λ (x : State × 
 -- it leads to a state that the machine reaches
 pub reached_after : (n : Name) (log : List Entry) → are_distinct (linked_values n.links) ≡ true → IsLegalList (start n) log → IsReached (after (start n) log)
 reached_after n log distinct l = reached_by (events_of log) (start n) (after (start n) log) (answers_of (moments (start n) log)) (opening_reached n.slots n.links distinct) (as_legal (start n) log l)
+
+-- what holds of a slot's call that takes its number: it has none, or reads the heads for a full batch
+pub taken_either : (P : Option Progress → Type 0) (size slots : ℕ) (batch : List ℕ) → P None → P (Some (record { place = Mark 0 slots []; queue = [] })) → P (taken_call size slots batch)
+taken_either P size slots batch none full = go (nat_le (max 1 size) (length batch))
+  where
+    go : (b : Bool) → P (if b then Some (record { place = Mark 0 slots []; queue = [] }) else None)
+    go true = full
+    go false = none
 
 -- a legal list is legal without its last entry
 pub legal_front : (st : State) (log : List Entry) (e : Entry) → IsLegalList st (log ++ e ∷ []) → IsLegalList st log

@@ -1,12 +1,12 @@
 -- Plans of batches: what is fixed when a batch is detached stays so, and a head's word follows from the list.
-use Rattle.std.proofs.Common.{◌≡◌, ℕ, zero, suc, ◌+◌, ◌<◌, ◌≤◌, ℤ, pos, ◌+ℤ◌, ◌-ℤ◌, ◌==◌, nat_lt, if◌then◌else◌, Bool, true, false, ◌&&◌, replicate, List, [], ◌∷◌, ◌++◌, length, get_or, set, Option, Some, refl, sym, ◌∙◌, ap, subst, ◌⊎◌, inl, inr, arith, append_assoc}
+use Rattle.std.proofs.Common.{◌≡◌, ◌≢◌, ℕ, zero, suc, ◌+◌, ◌<◌, ◌≤◌, ℤ, pos, ◌+ℤ◌, ◌-ℤ◌, ◌==◌, nat_lt, if◌then◌else◌, Bool, true, false, ◌&&◌, replicate, List, [], ◌∷◌, ◌++◌, length, get_or, set, Option, Some, refl, sym, ◌∙◌, ap, subst, ◌⊎◌, inl, inr, arith, append_assoc}
 use Rattle.std.proofs.lemmas.List.{get_or_past, get_or_append_left, get_or-set_same, get_or-set_other, length-set}
 use Rattle.std.proofs.lemmas.Bool.{cases_lt}
 use mathlib.Core.List.{IsPrefix}
 use native.Mathlib.Decide.{ℕ_discrete}
 use Rattle.seize_machine.specs.Machine.State.{State, Slot, Progress, Head, Inactive, Active, Mark, Try, Rest, no_batch, no_slot, slot_at, is_active, head_at, batch_at, waiting_at, linked_values, are_distinct, opening}
 use Rattle.seize_machine.specs.Machine.Event.{Event, event_slot}
-use Rattle.seize_machine.specs.Machine.Next.{next, look, looked, marked_place}
+use Rattle.seize_machine.specs.Machine.Next.{next, look, looked, marked_place, taken_call}
 use Rattle.seize_machine.specs.Machine.History.{IsReached, Timed, done_by}
 use Rattle.seize_machine.specs.Machine.Frames.{batches_added, changes_head_of, changes_slot}
 use Rattle.seize_machine.specs.declared.machine.event.Answer.{Answer}
@@ -15,7 +15,7 @@ use Rattle.seize_book.specs.Blocks.{Plan, no_plan, planned_by, plans, block_in, 
 use Rattle.seize_book.specs.Book.{HolderKnows, TheHead, IsLegalList, after}
 use Rattle.seize_book.specs.Entry.{Entry, Made, Used, timed_deed}
 use Rattle.seize_book.specs.Tokens.{Name, start}
-use Rattle.seize_book.proofs.Lists.{reached_after}
+use Rattle.seize_book.proofs.Lists.{reached_after, taken_either}
 use Rattle.seize_book.proofs.Lives.{legal_first}
 
 -- Each batch detached has its plan.
@@ -138,9 +138,9 @@ written slots s x call h = go (cases_lt s (length slots))
     go (inl l) = ap (λ (y : Slot). y.call) (sym (get_or-set_same slots s x no_slot l)) ∙ h
     go (inr le) = absurd (let none : Option.None ≡ Some call = ap (λ (y : Slot). y.call) (sym (get_or_past (set slots s x) s no_slot (subst (λ (k : ℕ). k ≤ s) (sym (length-set slots s x)) le))) ∙ h in cc)
 
--- no call under way at a slot that is added
-added_none : (slots : List Slot) (x : Slot) (s : ℕ) (call : Progress) → x.call ≡ Option.None → (get_or (slots ++ x ∷ []) s no_slot).call ≡ Some call → (get_or slots s no_slot).call ≡ Some call
-added_none [] x zero call none h = absurd (let e : Option.None ≡ Some call = sym none ∙ h in cc)
+-- this call is not under way at a slot that is added
+added_none : (slots : List Slot) (x : Slot) (s : ℕ) (call : Progress) → x.call ≢ Some call → (get_or (slots ++ x ∷ []) s no_slot).call ≡ Some call → (get_or slots s no_slot).call ≡ Some call
+added_none [] x zero call none h = absurd (none h)
 added_none [] x (suc s) call none h = h
 added_none (y ∷ slots) x zero call none h = h
 added_none (y ∷ slots) x (suc s) call none h = added_none slots x s call none h
@@ -169,6 +169,9 @@ module _ (size : ℕ) (st : State) (waiting : WaitingThere st) (old : SawThere s
       go true e = let p = at_try _ e in cc
       go false e = let p = at_try _ e in cc
 
+  not_taken : (slots : ℕ) (batch : List ℕ) → taken_call size slots batch ≢ Some tries
+  not_taken slots batch = taken_either (λ (o : Option Progress). o ≢ Some tries) size slots batch (λ e. cc) (λ e. let p = at_try _ e in cc)
+
   not_looked : (c w : ℕ) (marks q : List ℕ) → Some (record { place = look c w marks; queue = q }) ≡ Some tries → ⊥
   not_looked c w [] q e = let p = at_try _ e in cc
   not_looked c w (k ∷ marks) q e = let p = at_try _ e in cc
@@ -178,9 +181,10 @@ module _ (size : ℕ) (st : State) (waiting : WaitingThere st) (old : SawThere s
       let same = some_is _ _ is in let p = at_try _ (written st.slots s _ tries (ap (λ (x : State × Answer). (slot_at x.0 s).call) same ∙ h)) in cc
 
   saw_step : (event : Event) (d : State × Answer) → Step size st event d → Stands d.0 (event_slot event) (Try b won m later saw) queue → Goal
-  saw_step event _ (Step.took_new s is free) h = old s b won m later saw queue (added_none st.slots _ s tries refl h)
-  saw_step event _ (Step.took_old s there off free) h = old s b won m later saw queue (written st.slots s _ tries h)
-  saw_step event _ (Step.gave s idle off) h = old s b won m later saw queue (written st.slots s _ tries h)
+  saw_step event _ (Step.took_new s is free) h = old s b won m later saw queue (added_none st.slots _ s tries (not_taken (length st.slots + 1) st.rest) h)
+  saw_step event _ (Step.took_old s there off free) h = absurd (not_taken (length st.slots) st.rest (written st.slots s _ tries h))
+  saw_step event _ (Step.gave s idle off ends) h = absurd (let e = written st.slots s _ tries h in cc)
+  saw_step event _ (Step.gathered s idle off alone some) h = absurd (let at = at_try _ (written st.slots s _ tries h) in cc)
   saw_step event _ (Step.entered s idle off) h = old s b won m later saw queue h
   saw_step event _ (Step.begun_retire s v idle may) h = absurd (let at = at_try _ (written st.slots s _ tries h) in cc)
   saw_step event _ (Step.begun_other s job place idle (inl p) may) h = absurd (let at = at_try _ (written st.slots s _ tries h) in cc)

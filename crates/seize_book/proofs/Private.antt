@@ -5,7 +5,7 @@ use Rattle.std.specs.Prelude.{take, drop}
 use Rattle.seize_machine.specs.Machine.State.{State, slot_at, head_at, is_active}
 use Rattle.seize_machine.specs.Machine.Event.{Event, event_slot}
 use Rattle.seize_machine.specs.Machine.Next.{next}
-use Rattle.seize_machine.specs.Machine.Frames.{changes_slot, changes_used}
+use Rattle.seize_machine.specs.Machine.Frames.{changes_slot, changes_used, changes_numbers}
 use Rattle.seize_machine.specs.declared.machine.event.Answer.{Answer}
 use Rattle.seize_machine.proofs.Facts.{is_true, eq_true, step_of}
 use Rattle.seize_book.specs.Ledger.{HeldKey, HoldersKnow, WithKinds, with_list, keys_made}
@@ -64,8 +64,14 @@ of_other (Event.ReadLink s l) k h = refl
 of_other (Event.ExchangeLink s l exchange) k h = refl
 of_other _ k h = h
 
--- an event that changes no number makes no slot
-pub makes_none : (st : State) (event : Event) → changes_used event ≡ false → makes_slot st event ≡ false
+-- an event that changes neither the numbers nor the rest changes no number
+pub none_used : (event : Event) → changes_numbers event ≡ false → changes_used event ≡ false
+none_used (Event.Take s) h = absurd (cc)
+none_used (Event.Give s) h = absurd (cc)
+none_used _ h = refl
+
+-- and makes no slot
+pub makes_none : (st : State) (event : Event) → changes_numbers event ≡ false → makes_slot st event ≡ false
 makes_none st (Event.Take s) h = absurd (cc)
 makes_none st _ h = refl
 

@@ -9,7 +9,7 @@ use Rattle.std.proofs.lemmas.Bool.{cases_lt, true≢false}
 use native.Mathlib.Decide.{ℕ_discrete}
 use Rattle.seize_machine.specs.Machine.State.{State, Slot, Progress, Head, Inactive, Active, Place, Mark, Look, Try, Out, Rest, no_slot, slot_at, head_at, batch_at, is_active, waiting_at, has, linked_values, are_distinct, opening}
 use Rattle.seize_machine.specs.Machine.Event.{Event}
-use Rattle.seize_machine.specs.Machine.Next.{next, of_call, look, looked, marked_place}
+use Rattle.seize_machine.specs.Machine.Next.{next, of_call, look, looked, marked_place, taken_slot, taken_call}
 use Rattle.seize_machine.specs.Machine.History.{IsReached, done_by}
 use Rattle.seize_machine.specs.Machine.Laws.{IsHeld, Lists, Walks, walk_of, detached_by}
 use Rattle.seize_machine.specs.declared.machine.event.Answer.{Answer}
@@ -20,7 +20,7 @@ use Rattle.seize_book.specs.Homes.{home_of, HasOne}
 use Rattle.seize_book.specs.Book.{after, IsLegalList}
 use Rattle.seize_book.specs.Entry.{Entry, Made, Used, timed_deed}
 use Rattle.seize_book.specs.Tokens.{Name, start}
-use Rattle.seize_book.proofs.Lists.{equal, unequal}
+use Rattle.seize_book.proofs.Lists.{equal, taken_either, unequal}
 use Rattle.seize_book.proofs.Lives.{legal_first}
 use Rattle.seize_book.proofs.Plans.{planned_many}
 
@@ -163,6 +163,9 @@ module _ (ps : List Plan) where
       go true = tt
       go false = rest_marked s []
 
+  taken_marked : (s size n : ℕ) (batch : List ℕ) → CallMarked ps s (taken_call size n batch)
+  taken_marked s size n batch = taken_either (CallMarked ps s) size n batch tt tt
+
   begun_marked : (s n : ℕ) (place : Place) → (place ≡ Rest [] []) ⊎ (place ≡ Mark 0 n []) ⊎ (place ≡ Out true) ⊎ (place ≡ Out false) → PlaceMarked ps s place
   begun_marked s n place (inl e) = subst (PlaceMarked ps s) (sym e) (rest_marked s [])
   begun_marked s n place (inr (inl e)) = subst (PlaceMarked ps s) (sym e) tt
@@ -215,9 +218,11 @@ module _ (ps : List Plan) where
   heads_step size st event _ _ calls waits = waits
 
   slots_step : (size : ℕ) (st : State) (event : Event) (d : State × Answer) → Step size st event d → HasPlanned st event → HeadsMarked st → SlotsMarked st → SlotsMarked d.0
-  slots_step size st event _ (Step.took_new s e least) news waits calls = at_push SlotMarked st.slots (record { used = true; batch = []; call = None }) no_slot tt calls
-  slots_step size st event _ (Step.took_old s within e least) news waits calls = goes_on st s (record (slot_at st s) { used = true }) (calls s) calls
-  slots_step size st event _ (Step.gave s e off) news waits calls = goes_on st s (record (slot_at st s) { used = false }) (calls s) calls
+  slots_step size st event _ (Step.took_new s e least) news waits calls =
+      at_push SlotMarked st.slots (taken_slot size (length st.slots + 1) st.rest) no_slot (taken_marked (length st.slots) size (length st.slots + 1) st.rest) calls
+  slots_step size st event _ (Step.took_old s within e least) news waits calls = goes_on st s (taken_slot size (length st.slots) st.rest) (taken_marked s size (length st.slots) st.rest) calls
+  slots_step size st event _ (Step.gave s e off ends) news waits calls = goes_on st s no_slot tt calls
+  slots_step size st event _ (Step.gathered s e off alone some) news waits calls = goes_on st s _ tt calls
   slots_step size st event _ (Step.begun_retire s v e new) news waits calls = goes_on st s _ tt calls
   slots_step size st event _ (Step.begun_other s job place e which exact) news waits calls = goes_on st s _ (begun_marked s (length st.slots) place which) calls
   slots_step size st event _ (Step.put s v from before later place e which to after_is) news waits calls = goes_on st s _ (put_marked s (length st.slots) place _ to) calls

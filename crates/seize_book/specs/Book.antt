@@ -8,7 +8,7 @@ use Rattle.std.specs.List.{filter}
 use mathlib.Core.List.{IsPrefix}
 use Rattle.seize_machine.specs.Machine.State.{State, slot_at, head_at, link_at, is_active, has}
 use Rattle.seize_machine.specs.Machine.Event.{Event, Take}
-use Rattle.seize_machine.specs.Machine.Frames.{changes_slot, used, changes_used, changes_head_of, changes_link}
+use Rattle.seize_machine.specs.Machine.Frames.{changes_slot, used, changes_numbers, changes_head_of, changes_link}
 use Rattle.seize_machine.specs.declared.machine.event.Answer.{Answer}
 use Rattle.seize_book.specs.Ledger.{Rules}
 pub use Rattle.seize_book.specs.After.{moments, after, IsLegalList, outcome, Does, with_answers}
@@ -92,7 +92,7 @@ kind_of _ = Nothing
 -- link and their retirement; of a field what was last stored there
 abbrev pub Same : State → Kind → ℕ → List Entry → List Entry → Type 0
 Same st ThePass p a b = mine st p a ≡ mine st p b
-Same st TheNumbers k a b = used (after st a) ≡ used (after st b)
+Same st TheNumbers k a b = (used (after st a) ≡ used (after st b)) × ((after st a).rest ≡ (after st b).rest)
 Same st TheSlot s a b =
     (by_slot st s a ≡ by_slot st s b)
     × (slot_at (after st a) s ≡ slot_at (after st b) s)
@@ -121,7 +121,7 @@ abbrev pub touches : State → Entry → Kind → ℕ → Bool
 touches st e ThePass p = maker e == p
 touches st e TheSlot s = acts s e
 touches st e TheField f = uses f e
-touches st (Made d) TheNumbers k = changes_used d.event
+touches st (Made d) TheNumbers k = changes_numbers d.event
 touches st (Made d) TheHead m = changes_head_of m d.event
 touches st (Made d) TheLink l = changes_link l d.event
 touches st (Made d) TheCount k = changes_count st k d.event

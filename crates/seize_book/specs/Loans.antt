@@ -1,7 +1,7 @@
 -- Contents that are lent while their values stand in links. The name of a value says which content it stands for, beside its block: which
 -- one it is, and the code of what is lent there. The loan goes with the key of the value's block, wherever that goes.
 --     code_number g          a number for each code, of which no other has it
---     rest_of v              what the name says beside the block: its place, what it carries, and its cell
+--     beside_of v            what the name says beside the block: its place, what it carries, and its cell
 --     place_of v             the name of the content that its block has, and loan_of v    the number of the code that is lent there, and
 --                            one more; or 0, where nothing is lent with the value
 --     cell_of v              the name of the cell in which the holder of its block's key makes notes
@@ -26,17 +26,17 @@ code_number gnil = pair 0 0
 code_number (gnum n) = pair 1 n
 code_number (gcons a b) = pair 2 (pair (code_number a) (code_number b))
 
-abbrev pub rest_of : ℕ → ℕ
-rest_of v = right_of (v / 2 ^ 64)
+abbrev pub beside_of : ℕ → ℕ
+beside_of v = right_of (v / 2 ^ 64)
 
 abbrev pub place_of : ℕ → ℕ
-place_of v = left_of (rest_of v)
+place_of v = left_of (beside_of v)
 
 abbrev pub loan_of : ℕ → ℕ
-loan_of v = left_of (right_of (rest_of v))
+loan_of v = left_of (right_of (beside_of v))
 
 abbrev pub cell_of : ℕ → ℕ
-cell_of v = left_of (right_of (right_of (rest_of v)))
+cell_of v = left_of (right_of (right_of (beside_of v)))
 
 abbrev pub loan_number : Gv → ℕ
 loan_number g = suc (code_number g)

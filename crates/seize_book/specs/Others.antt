@@ -8,6 +8,10 @@
 --     IsLeast s st                      slot s is there, and its number is the least that is not in use and one of a table;
 --     MayTakeNumber numbers key         so it is for this slot, as the key of the numbers knows
 --     use_flags numbers                 which numbers are in use, as this key knows;  first_false us     the least that is not
+--     others_used us s                  another number than s is in use
+--     MayGive numbers key, MayGather numbers key     the slot may end, since another one is in use or nothing is left;  or it may gather
+--     numbers_saw numbers               the list at the last event with this key
+--     rest_of numbers                   what slots left in their batches as they ended, in order, as this key knows
 --     IsOfBook keys pass                they are of one book;  IsValueOf value pass, AreNumbersOf numbers pass     so is this key
 --     state_of keys, value_of value     where the keys' list leads, and which value it is
 --     BearsNone n p seen held event     wherever the list is by then, the event makes no keys
@@ -22,21 +26,22 @@
 --     Follows keys pass' keys'          they are the same keys, and know all that the pass has seen;  FollowsValue value pass' value',
 --                                       FollowsNumbers numbers pass' numbers'     so it is with this key
 --     IsVacated value                   all values that ever lay in its block were reclaimed, as its key knows
-use Rattle.std.specs.Prelude.{◌≡◌, ◌≢◌, ℕ, ◌<◌, Bool, true, false, not, List, [], ◌∷◌, ◌++◌, length, ◌⊎◌}
-use Rattle.std.specs.List.{position_or_len}
+use Rattle.std.specs.Prelude.{◌≡◌, ◌≢◌, ℕ, ◌<◌, Bool, true, false, not, List, [], ◌∷◌, ◌++◌, length, slice_set, ◌⊎◌}
+use Rattle.std.specs.List.{list_any, position_or_len}
 use Rattle.seize_machine.specs.Machine.State.{State, has}
 use Rattle.seize_book.specs.Blocks.{block_number}
 use Rattle.seize_book.specs.Book.{after, births}
 use Rattle.seize_book.specs.Private.{is_one, key_of, label_of, own_of}
 use Rattle.seize_machine.specs.Machine.Event.{Event}
 use Rattle.seize_machine.specs.Machine.Frames.{used}
-use Rattle.seize_machine.specs.Machine.Next.{first_free}
+use Rattle.seize_machine.specs.Machine.Next.{ends_now, first_free}
 use Rattle.seize_table.specs.Place.{all_numbers}
 use Rattle.seize_book.specs.Homes.{IsVacant, home_of}
 use Rattle.seize_book.specs.Loans.{CarriesNone, cell_of, place_of, CarriesOne}
 use Rattle.seize_book.specs.Ledger.{HeldKey, with_list}
 use Rattle.seize_book.specs.Entry.{Deed, Entry, Made}
 use Rattle.seize_book.specs.Fair.{Before, MayAdd}
+use Rattle.seize_book.specs.Slots.{slot_of}
 use Rattle.seize_book.specs.Tokens.{Name, start}
 use Rattle.seize_book.specs.declared.book.keys.Keys.{Keys}
 use Rattle.seize_book.specs.declared.book.numbers_key.NumbersKey.{NumbersKey}
@@ -91,8 +96,27 @@ MayTakeNumber numbers key = IsLeast (key_of key.keys.held) (state_of numbers.key
 abbrev pub use_flags : NumbersKey → List Bool
 use_flags numbers = used (state_of numbers.keys)
 
+abbrev pub numbers_saw : NumbersKey → List Entry
+numbers_saw numbers = own_of numbers.keys.held
+
+abbrev pub others_used : List Bool → ℕ → Bool
+others_used us s = list_any (λ u. u) (slice_set us s false)
+
+abbrev pub rest_of : NumbersKey → List ℕ
+rest_of numbers = (state_of numbers.keys).rest
+
 abbrev pub first_false : List Bool → ℕ
 first_false us = position_or_len (λ u. not u) us
+
+-- the slot may end, as the keys of the numbers and of the slot know: another one is in use, or nothing is left
+abbrev pub MayGive : NumbersKey → SlotKey → Type 0
+MayGive numbers key =
+    ends_now (others_used (use_flags numbers) (key_of key.keys.held)) (slot_of key).batch (rest_of numbers) ≡ true
+
+-- or it has to gather first: no other one is in use, and something is left
+abbrev pub MayGather : NumbersKey → SlotKey → Type 0
+MayGather numbers key =
+    ends_now (others_used (use_flags numbers) (key_of key.keys.held)) (slot_of key).batch (rest_of numbers) ≡ false
 
 -- wherever the list is by then, the event makes no keys
 abbrev pub BearsNone : Name → ℕ → List Entry → List (HeldKey Entry) → Event → Type 0

@@ -14,7 +14,7 @@ use base.Stored.{Gv, gnil}
 use Rattle.seize_machine.specs.Machine.State.{State, Slot, Place, Append, Rest, slot_at, head_at, is_active}
 use Rattle.seize_machine.specs.Machine.Event.{Event, event_slot}
 use Rattle.seize_machine.specs.Machine.Next.{next, of_call}
-use Rattle.seize_machine.specs.Machine.Frames.{changes_used, changes_head_of, changes_link, changes_slot}
+use Rattle.seize_machine.specs.Machine.Frames.{changes_numbers, changes_head_of, changes_link, changes_slot}
 use Rattle.seize_book.specs.Ledger.{HeldKey}
 use Rattle.seize_book.specs.Entry.{Entry}
 use Rattle.seize_book.specs.Book.{births, blocks}
@@ -24,7 +24,7 @@ use Rattle.seize_book.specs.Linked.{are_joined, are_linked}
 abbrev pub IsOwn : ℕ → Event → Type 0
 IsOwn s event =
     (event_slot event ≡ s)
-    × (changes_used event ≡ false)
+    × (changes_numbers event ≡ false)
     × ((k : ℕ) → (changes_head_of k event ≡ false) × (changes_link k event ≡ false))
     × ((st : State) (k : ℕ) → (changes_count st k event ≡ false) × (changes_home st k event ≡ false))
 

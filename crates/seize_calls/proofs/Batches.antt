@@ -1,6 +1,6 @@
 -- Keys of the values of a batch, to which one more comes.
-use Rattle.std.proofs.Common.{◌≡◌, ◌≢◌, ℕ, suc, ◌+◌, ◌-◌, ◌≤◌, ◌^◌, ◌==◌, min, true, List, [], ◌∷◌, ◌++◌, length, map, refl, sym, ap, subst, ◌∙◌, append-nil, arith}
-use Rattle.std.proofs.lemmas.List.{length_push}
+use Rattle.std.proofs.Common.{◌≡◌, ◌≢◌, ℕ, suc, ◌+◌, ◌-◌, ◌≤◌, ◌^◌, ◌==◌, min, true, false, List, [], ◌∷◌, ◌++◌, length, map, refl, sym, ap, subst, ◌∙◌, append-nil, arith}
+use Rattle.std.proofs.lemmas.List.{length-append, length_push}
 use base.Stored.{Gv, gcons, gnil, gnum}
 use Rattle.seize_machine.proofs.Facts.{eq_true}
 use Rattle.seize_book.specs.Blocks.{block_number}
@@ -16,7 +16,7 @@ use Rattle.seize_book.specs.Values.{FollowsValues}
 use Rattle.seize_book.specs.declared.book.pass.Pass.{Pass}
 use Rattle.seize_book.specs.declared.book.value_keys.ValueKeys.{ValueKeys}
 use Rattle.seize_calls.specs.Batches.{without_slot, without_slots}
-use Rattle.seize_calls.specs.Numbered.{ends_at, is_count_of, starts_at}
+use Rattle.seize_calls.specs.Numbered.{are_none, ends_at, is_count_of, starts_at}
 use Rattle.seize_calls.proofs.Rounds.{joined_past, leads_to}
 
 abbrev Keys : Type 0
@@ -34,9 +34,12 @@ last_ends n [] v e = equal n (block_number v) (sym e)
 last_ends n (w ∷ []) v e = last_ends n [] v e
 last_ends n (w ∷ x ∷ vs) v e = last_ends n (x ∷ vs) v e
 
-pub starts_push : (n : ℕ) (vs : List ℕ) (v : ℕ) → starts_at n vs ≡ true → 1 ≤ length vs → starts_at n (vs ++ v ∷ []) ≡ true
-starts_push n [] v e some = absurd (omega (arith, some))
-starts_push n (w ∷ vs) v e some = e
+pub starts_append : (n : ℕ) (vs ws : List ℕ) → starts_at n vs ≡ true → 1 ≤ length vs → starts_at n (vs ++ ws) ≡ true
+starts_append n [] ws e some = absurd (omega (arith, some))
+starts_append n (v ∷ vs) ws e some = e
+
+pub starts_number : (n v : ℕ) (vs : List ℕ) → starts_at n (v ∷ vs) ≡ true → block_number v ≡ n
+starts_number n v vs e = sym (eq_true n (block_number v) e)
 
 pub counted_is : (n : ℕ) (vs : List ℕ) → is_count_of n vs ≡ true → n ≡ min (length vs) (2 ^ 64 - 1)
 counted_is n vs e = eq_true n (min (length vs) (2 ^ 64 - 1)) e
@@ -46,6 +49,9 @@ is_counted n vs e = equal n (min (length vs) (2 ^ 64 - 1)) e
 
 pub counted_push : (n k : ℕ) (vs : List ℕ) (v : ℕ) → is_count_of n vs ≡ true → k ≡ min (n + 1) (2 ^ 64 - 1) → is_count_of k (vs ++ v ∷ []) ≡ true
 counted_push n k vs v e is = let was = counted_is n vs e in let long = length_push vs v in is_counted k (vs ++ v ∷ []) (omega (arith, is, was, long))
+
+pub counted_append : (n m k : ℕ) (vs ws : List ℕ) → is_count_of n vs ≡ true → is_count_of m ws ≡ true → k ≡ min (n + m) (2 ^ 64 - 1) → is_count_of k (vs ++ ws) ≡ true
+counted_append n m k vs ws e f is = let was = counted_is n vs e in let more = counted_is m ws f in let long = length-append vs ws in is_counted k (vs ++ ws) (omega (arith, is, was, more, long))
 
 pub none_counted : (n : ℕ) (vs : List ℕ) → is_count_of n vs ≡ true → n ≡ 0 → vs ≡ []
 none_counted n [] e none = refl
@@ -57,6 +63,10 @@ some_counted n vs e some = go vs (counted_is n vs e)
     go : (vs : List ℕ) → n ≡ min (length vs) (2 ^ 64 - 1) → 1 ≤ length vs
     go [] is = absurd (some (let none : n ≡ 0 = omega (arith, is) in none))
     go (v ∷ vs) is = omega arith
+
+pub some_is : (n : ℕ) (vs : List ℕ) → is_count_of n vs ≡ true → n ≢ 0 → are_none vs ≡ false
+some_is n [] e some = absurd (let long = some_counted n [] e some in omega (arith, long))
+some_is n (v ∷ vs) e some = refl
 
 -- The last key.
 

@@ -1,5 +1,5 @@
 -- What a look at the list leaves of a slot, and shows of it; and an activation that has begun, and lasts, is the slot's current one.
-use Rattle.std.proofs.Common.{◌≡◌, ◌⊎◌, inl, inr, true, List, [], ◌++◌, None, sym, subst, ◌∙◌, append-nil}
+use Rattle.std.proofs.Common.{◌≡◌, ◌⊎◌, inl, inr, true, List, [], ◌++◌, sym, subst, ◌∙◌, append-nil}
 use base.Growing.{prefix_trans}
 use mathlib.Core.List.{IsPrefix}
 use Rattle.seize_machine.specs.Machine.State.{head_at, is_active, slot_at}
@@ -59,12 +59,11 @@ module _ {T : Type 0} (s s' : Slot T) (pass pass' : Pass) (looks : SlotLooks s p
   own : own_list s'.holder.key ≡ pass'.seen
   own = looks.0.does.seen_by.2
 
-  -- the pass knows of the slot what the slot's key knows, by its number; and no call of it is under way
-  pub shown : (slot_at (state_seen pass') (its_number s) ≡ slot_of s'.holder.key) × (is_active (head_at (state_seen pass') (its_number s)) ≡ active_of s'.holder.key) × ((slot_of s'.holder.key).call ≡ None)
+  -- the pass knows of the slot what the slot's key knows, by its number
+  pub shown : (slot_at (state_seen pass') (its_number s) ≡ slot_of s'.holder.key) × (is_active (head_at (state_seen pass') (its_number s)) ≡ active_of s'.holder.key)
   shown = (
     (λ j. slot_at (after (start (sym book j)) (sym own j)) (sym number j)),
     (λ j. is_active (head_at (after (start (sym book j)) (sym own j)) (sym number j))),
-    s'.together.call,
   )
 
   -- an activation of it that has begun, and lasts, is the one that its key knows

@@ -67,6 +67,7 @@ Kept st s d call =
 
 begun_so : (size : ℕ) (st : State) (s : ℕ) (job : Job) (d : State × Answer) (place : Place) → Step size st (Begin s job) d → beginning st s job ≡ Some place → Kept st s d (record { place = place; queue = [] })
 begun_so size st _ _ _ place (Step.begun_retire s v idle may) is = absurd (let none : Option.None ≡ Some place = is in cc)
+begun_so size st _ _ _ place (Step.gathered s idle off lone some) is = absurd (let none : Option.None ≡ Some place = is in cc)
 begun_so size st _ _ _ place (Step.begun_other s job other idle which may) is =
     let same = get_or-set_same st.slots s (begun_at (slot_at st s) other) no_slot (there st s idle) in (
       ap (λ (z : Slot). z.call) same ∙ ap (λ (p : Place). Some (record { place = p; queue = [] })) (some_is _ _ (sym may.1 ∙ is)),

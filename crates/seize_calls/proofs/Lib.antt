@@ -15,6 +15,7 @@ pub mod Marks
 pub mod Named
 pub mod Numbering
 pub mod Onwards
+pub mod Rested
 pub mod Rounds
 pub mod Settled
 pub mod Strolls

@@ -1,43 +1,47 @@
 -- What a pass knows of a slot that learned what the slot had seen, and what the slot's parts have to do with one another after a call.
-use Rattle.std.proofs.Common.{◌≡◌, ℕ, ◌<◌, ◌≤◌, true, false, ◌&&◌, List, [], ◌∷◌, length, append-nil, not, is_some, None, Some, inl, inr, sym, ap, subst, ◌∙◌, arith}
+use Rattle.std.proofs.Common.{◌≡◌, ℕ, ◌<◌, ◌≤◌, true, false, ◌&&◌, List, [], length, append-nil, not, is_some, Some, inl, inr, sym, ap, subst, ◌∙◌, arith}
 use base.Growing.{prefix_refl, prefix_trans}
 use mathlib.Core.List.{IsPrefix}
 use Rattle.seize_machine.proofs.Facts.{Step, next_of}
-use Rattle.seize_machine.specs.Machine.Event.{Enter, Event}
+use Rattle.seize_machine.specs.Machine.Event.{Enter}
 use Rattle.seize_machine.specs.Machine.Next.{next, set_head}
 use Rattle.seize_machine.specs.Machine.State.{State, are_distinct, head_at, is_active, is_idle, linked_values}
+use Rattle.seize_machine.specs.Machine.State.{Slot as Record}
 use Rattle.seize_machine.specs.Machine.State.{Active as Entered}
 use Rattle.seize_machine.specs.declared.machine.event.Answer.{Answer}
 use Rattle.seize_machine.specs.declared.machine.event.Answer.TheVariants.{Done}
 use Rattle.seize_store.specs.Named.{AreOfStore}
 use Rattle.seize_table.specs.Place.{all_numbers}
-use Rattle.seize_book.specs.Adding.{private}
 use Rattle.seize_book.specs.Book.{IsLegalList, after}
 use Rattle.seize_book.specs.Books.{Learns}
-use Rattle.seize_book.specs.Entry.{Deed, Entry, Made}
-use Rattle.seize_book.specs.Kept.{AreTold}
+use Rattle.seize_book.specs.Entry.{Deed, Entry}
+use Rattle.seize_book.specs.Kept.{AreTold, AreToldIn}
+use Rattle.seize_book.specs.Ledger.{HeldKey}
 use Rattle.seize_book.specs.Others.{MayTakeNumber, first_false, use_flags}
 use Rattle.seize_book.specs.Passes.{Longer, LooksOn}
 use Rattle.seize_book.specs.Laws.{life}
-use Rattle.seize_book.specs.Slots.{AddsDeed, AddsEvent, LooksWithSlotKey, Moves, active_of, life_of, own_list, slot_number, slot_of, start_of}
+use Rattle.seize_book.specs.Slots.{AddsDeed, LooksWithSlotKey, Moves, active_of, life_of, own_list, slot_number, slot_of, start_of}
+use Rattle.seize_book.specs.Private.{labels_of}
 use Rattle.seize_book.specs.Tokens.{Name, start}
+use Rattle.seize_book.specs.Values.{IsEmpty}
 use Rattle.seize_book.specs.declared.book.numbers_key.NumbersKey.{NumbersKey}
 use Rattle.seize_book.specs.declared.book.pass.Pass.{Pass}
 use Rattle.seize_book.specs.declared.book.slot_key.SlotKey.{SlotKey}
 use Rattle.seize_book.specs.declared.book.seen.Seen.{Seen}
+use Rattle.seize_book.specs.declared.book.value_keys.ValueKeys.{ValueKeys}
 use Rattle.seize_words.specs.Joined.{IsHolder, IsInAt}
 use Rattle.seize_words.specs.Reservations.{IsActivationOf, IsLastOf, beginning}
 use Rattle.seize_words.specs.Walks.{Knows}
 use Rattle.seize_words.specs.declared.activation.Activation.{Activation}
 use Rattle.seize_words.specs.declared.words.Words.{Words}
-use Rattle.seize_book.proofs.Facts.{legal_prefix, same_twice}
+use Rattle.seize_book.proofs.Facts.{same_twice}
 use Rattle.seize_words.proofs.Facts.{all_told_later, knows_noted, may_take_by, more_slots, moved, seen_grows}
-use Rattle.seize_calls.proofs.Keeps.{state_before}
 use Rattle.seize_calls.specs.Batches.{keys_in}
 use Rattle.seize_calls.specs.Calls.{HasBegun, Rests}
 use Rattle.seize_calls.specs.Settling.{HasBatch}
 use Rattle.seize_calls.specs.Slots.{CallsWith, HasActivation, IsInUse, IsInactive, IsOfList, IsOfWords, IsPassFor, KeepsActivation, Prepares}
 use Rattle.seize_calls.specs.Together.{BelongTogether, IsHolderFor, what_saw}
+use Rattle.seize_calls.specs.declared.batch.Batch.{Batch}
 use Rattle.seize_calls.specs.declared.holder.Holder.{Holder}
 use Rattle.seize_calls.specs.declared.slot.Slot.{Slot}
 
@@ -63,9 +67,12 @@ slots_of : (n m : Name) (seen seen' : List Entry) → m ≡ n → IsPrefix seen 
 slots_of n m seen seen' same grows legal =
     subst (λ (z : Name). length (after (start z) seen).slots ≤ length (after (start m) seen').slots) same (more_slots m seen seen' grows legal)
 
--- a slot in use has no call under way
-pub idle_in : {T : Type 0} (s : Slot T) → IsInUse s → is_idle (slot_of s.holder.key) ≡ true
-idle_in s used = λ j. used j && not (is_some (s.together.call j))
+-- a slot is idle after a call, as it was before
+pub idle_after : {key : SlotKey} {pass : Pass} {key' : SlotKey} {pass' : Pass} {values' : ValueKeys} → Rests key pass key' pass' values' → (slot_of key).used ≡ true → is_idle (slot_of key') ≡ true
+idle_after rests used = λ j. (rests.used ∙ used) j && not (is_some (rests.call j))
+
+pub used_in : (slot : Record) → is_idle slot ≡ true → slot.used ≡ true
+used_in slot idle = grind arith
 
 knows_as : (key : SlotKey) (pass : Pass) (seen : Seen) → seen.name ≡ pass.name → seen.seen ≡ pass.seen → Knows key pass → Knows key (what_saw seen)
 knows_as key pass seen name saw knows = record {
@@ -124,7 +131,6 @@ pub record IsAfter {T : Type 0} (s : Slot T) (p : Pass) (holder' : Holder T) (pa
   pub grows : IsPrefix p.seen pass'.seen
   pub its : (holder'.key.keys.name ≡ s.holder.key.keys.name) × (slot_number holder'.key ≡ slot_number s.holder.key)
   pub knows : Knows holder'.key pass'
-  pub call : (slot_of holder'.key).call ≡ None
   pub batch : HasBatch holder'.key pass' (keys_in holder'.batch)
   pub spots : AreOfStore holder'.spots s.seen.name.store
 
@@ -136,7 +142,6 @@ module _ {T : Type 0} (s : Slot T) (p : Pass) (ready : Ready s.seen p) (holder' 
         book = is.its.0 ∙ s.together.book ∙ sym same;
         numbered = is.its.1 ∙ s.together.numbered;
         there = subst (λ (t : Name × List Entry). s.number < length (after (start t.0) t.1).slots) (λ j. (sym named j, sym saw j)) (omega (arith, there, more));
-        call = is.call;
         batch_is = (is.batch.0 ∙ sym named, is.batch.1);
         spots_in = subst (λ (n : Name). AreOfStore holder'.spots n.store) (sym same) is.spots;
       }
@@ -167,7 +172,6 @@ after_call words s p holder' pass' of rests is = record {
   grows = rests.grows;
   its = rests.its;
   knows = is.keyed.knows;
-  call = rests.call;
   batch = is.batch;
   spots = subst (λ (n : Name). AreOfStore holder'.spots n.store) (sym of.book) is.spots;
 }
@@ -179,44 +183,48 @@ entered_so key key' log pass its later answer moves idle off =
     let is : next pass.size st (Enter s) ≡ Some d = next_of pass.size st (Enter s) d (Step.entered s (ap is_idle moves.was ∙ idle) (moves.was_active ∙ off)) in
     moved key key' log (beginning pass its (Enter s)) later answer moves d is ∙ moves.was
 
--- An event of the slot that makes no call leaves its batch, and so does a look at the list.
-module _ {T : Type 0} (s : Slot T) (p : Pass) (ready : Ready s.seen p) (told : AreTold (keys_in s.holder.batch) (what_saw s.seen)) (key' : SlotKey) (pass' : Pass) (call : (slot_of key').call ≡ (slot_of s.holder.key).call) (batch : (slot_of key').batch ≡ (slot_of s.holder.key).batch) where
-  abbrev still : Holder T
-  still = record { key = key'; batch = s.holder.batch; spots = s.holder.spots }
+-- A batch that stays is the slot's; and so is one of no values, where the slot has none.
 
-  still_after : pass'.name ≡ p.name → IsPrefix p.seen pass'.seen → (key'.keys.name ≡ s.holder.key.keys.name) × (slot_number key' ≡ slot_number s.holder.key) → Knows key' pass' → IsAfter s p still pass'
-  still_after name grows its knows = record {
-    name = name;
-    grows = grows;
-    its = its;
-    knows = knows;
-    call = call ∙ s.together.call;
-    batch = (s.together.batch_is.0 ∙ ready.named ∙ sym name, s.together.batch_is.1 ∙ sym batch, all_told_later s.seen.seen pass'.seen (keys_in s.holder.batch).keys.held (prefix_trans s.seen.seen p.seen pass'.seen ready.grows grows) told);
-    spots = s.together.spots_in;
-  }
+pub same_batch : {T : Type 0} (s : Slot T) (p : Pass) → Ready s.seen p → AreTold (keys_in s.holder.batch) (what_saw s.seen) → (key' : SlotKey) (pass' : Pass) → pass'.name ≡ p.name → IsPrefix p.seen pass'.seen
+    → (slot_of key').batch ≡ (slot_of s.holder.key).batch → HasBatch key' pass' (keys_in s.holder.batch)
+same_batch s p ready told key' pass' name grows batch = (
+  s.together.batch_is.0 ∙ ready.named ∙ sym name,
+  s.together.batch_is.1 ∙ sym batch,
+  all_told_later s.seen.seen pass'.seen (keys_in s.holder.batch).keys.held (prefix_trans s.seen.seen p.seen pass'.seen ready.grows grows) told,
+)
 
-  pub after_event : (d : Deed) → AddsDeed s.holder.key p key' pass' d → IsAfter s p still pass'
-  after_event d notes = still_after notes.0.0 (seen_grows p.name p.id p.seen pass'.seen _ notes.2.0) (notes.1.0, notes.1.1) (knows_noted s.holder.key key' p pass' d notes)
+pub no_batch : (key' : SlotKey) (pass' : Pass) (values : ValueKeys) → IsEmpty values pass' → (slot_of key').batch ≡ [] → HasBatch key' pass' values
+no_batch key' pass' values empty none =
+    (empty.0, ap labels_of empty.1 ∙ sym none, subst (λ (held : List (HeldKey Entry)). AreToldIn pass'.seen held) (sym empty.1) tt)
 
-  pub after_look : LooksWithSlotKey s.holder.key p key' pass' → IsAfter s p still pass'
-  after_look looks =
-      still_after looks.on.same.0 looks.on.grows (looks.seen_by.0, looks.seen_by.1)
-      (record { seen = ([], append-nil (own_list key') ∙ looks.seen_by.2); legal = subst (λ (n : Name). IsLegalList (start n) pass'.seen) (sym looks.on.same.0) looks.on.legal; distinct = ap (λ (n : Name). are_distinct (linked_values n.links)) looks.on.same.0 ∙ looks.on.distinct })
+-- After an event of the slot by itself, with the batch that it has then, and after a look at the list.
+module _ {T : Type 0} (s : Slot T) (p : Pass) (ready : Ready s.seen p) (key' : SlotKey) (pass' : Pass) where
+  abbrev with_batch : Batch → Holder T
+  with_batch batch' = record { key = key'; batch = batch'; spots = s.holder.spots }
 
-module _ {T : Type 0} (s : Slot T) (p : Pass) (key' : SlotKey) (pass' : Pass) where
-  -- entering leaves the slot's record
-  pub stays_entered : (a : Activation) → AddsDeed s.holder.key p key' pass' (beginning p a.life (Enter (slot_number s.holder.key))) → IsInUse s → IsInactive s → slot_of key' ≡ slot_of s.holder.key
-  stays_entered a notes used off =
-      let n = notes.2.0 in
-      entered_so s.holder.key key' n.before p a.life n.later n.answer notes.2.1 (idle_in s used) off
+  is_after : (batch' : Batch) → HasBatch key' pass' (keys_in batch') → pass'.name ≡ p.name → IsPrefix p.seen pass'.seen → (key'.keys.name ≡ s.holder.key.keys.name) × (slot_number key' ≡ slot_number s.holder.key) → Knows key' pass'
+      → IsAfter s p (with_batch batch') pass'
+  is_after batch' has name grows its knows = record { name = name; grows = grows; its = its; knows = knows; batch = has; spots = s.together.spots_in }
 
-  -- a slot that is there is so before its event
-  pub there_before : Ready s.seen p → (e : Event) → (notes : AddsEvent s.holder.key p key' pass' e) → slot_number s.holder.key < length (state_before s.holder.key key' p pass' e [] notes).slots
-  there_before ready e notes =
-      let n = notes.2.0 in let own = holder s p ready in
-      let legal : IsLegalList (start p.name) n.before = legal_prefix (start p.name) n.before pass'.seen (Made (private p e) ∷ [], sym n.appended) n.legal in
-      let more = slots_of p.name s.holder.key.keys.name p.seen n.before own.0 n.grows (subst (λ (m : Name). IsLegalList (start m) n.before) (sym own.0) legal) in
-      omega (arith, own.1, own.2, more)
+  pub after_event : (batch' : Batch) → HasBatch key' pass' (keys_in batch') → (d : Deed) → AddsDeed s.holder.key p key' pass' d → IsAfter s p (with_batch batch') pass'
+  after_event batch' has d notes = is_after batch' has notes.0.0 (seen_grows p.name p.id p.seen pass'.seen _ notes.2.0) (notes.1.0, notes.1.1) (knows_noted s.holder.key key' p pass' d notes)
+
+  module _ (told : AreTold (keys_in s.holder.batch) (what_saw s.seen)) (same : slot_of key' ≡ slot_of s.holder.key) where
+    pub still_event : (d : Deed) → AddsDeed s.holder.key p key' pass' d → IsAfter s p (with_batch s.holder.batch) pass'
+    still_event d notes =
+        after_event s.holder.batch
+        (same_batch s p ready told key' pass' notes.0.0 (seen_grows p.name p.id p.seen pass'.seen _ notes.2.0) (ap (λ (z : Record). z.batch) same)) d notes
+
+    pub still_look : LooksWithSlotKey s.holder.key p key' pass' → IsAfter s p (with_batch s.holder.batch) pass'
+    still_look looks =
+        is_after s.holder.batch (same_batch s p ready told key' pass' looks.on.same.0 looks.on.grows (ap (λ (z : Record). z.batch) same)) looks.on.same.0 looks.on.grows (looks.seen_by.0, looks.seen_by.1)
+        (record { seen = ([], append-nil (own_list key') ∙ looks.seen_by.2); legal = subst (λ (n : Name). IsLegalList (start n) pass'.seen) (sym looks.on.same.0) looks.on.legal; distinct = ap (λ (n : Name). are_distinct (linked_values n.links)) looks.on.same.0 ∙ looks.on.distinct })
+
+-- entering leaves the slot's record
+pub stays_entered : {T : Type 0} (s : Slot T) (p : Pass) (key' : SlotKey) (pass' : Pass) (a : Activation) → AddsDeed s.holder.key p key' pass' (beginning p a.life (Enter (slot_number s.holder.key))) → IsInUse s → IsInactive s → slot_of key' ≡ slot_of s.holder.key
+stays_entered s p key' pass' a notes used off =
+    let n = notes.2.0 in
+    entered_so s.holder.key key' n.before p a.life n.later n.answer notes.2.1 used off
 
 -- the pass is ready when it has learned of the slot, and when it has looked at the list then
 module _ {T : Type 0} (slot : Slot T) (pass p : Pass) (book : slot.seen.name ≡ pass.name) (learns : Learns pass slot.seen p) where

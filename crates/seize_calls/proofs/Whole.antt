@@ -20,12 +20,12 @@ use Rattle.seize_words.specs.Walks.{Knows}
 use Rattle.seize_words.specs.declared.words.Words.{Words}
 use Rattle.seize_calls.specs.Alone.{Onward}
 use Rattle.seize_calls.specs.Batches.{keys_in}
-use Rattle.seize_calls.specs.Calls.{Begins, BeginsSo, Ends, Flushes, Rests, RetiresOne, Returns, job_of}
+use Rattle.seize_calls.specs.Calls.{Begins, BeginsSo, BeginsToAttempt, Ends, Flushes, Rests, Resumes, RetiresOne, Returns, job_of}
 use Rattle.seize_calls.specs.Furthers.{further_in}
 use Rattle.seize_calls.specs.Handing.{Had}
 use Rattle.seize_calls.specs.Together.{IsHolderFor, IsUnderWay}
 use Rattle.seize_calls.specs.Laying.{Lays}
-use Rattle.seize_calls.specs.Settling.{CallState, DrainsOne, HasBatch, HasQueue, MarksFrom, MayPut, Settles}
+use Rattle.seize_calls.specs.Settling.{CallState, DrainsOne, HasBatch, HasQueue, IsToMark, MarksFrom, MayPut, Settles}
 use Rattle.seize_calls.specs.declared.further.Further.{Further}
 use Rattle.seize_calls.specs.declared.holder.Holder.{Holder}
 use Rattle.seize_calls.proofs.Events.{Kept, begins_so, begun_retire_so, call_begun, flush_so, keeps_returned, made_returned, out_so}
@@ -154,6 +154,34 @@ module _ {T : Type 0} (words : Words T) (holder : Holder T) (pass : Pass) (queue
           begins = so_begun (Retire v) (kept ∷ []) _ b;
           settled = settled;
           drains_one = round;
+          ends = ends;
+          rests = call_rests settled key' pass' values' had' ends holder.key pass on batch;
+          active = on.active;
+          life = on.life;
+        }
+
+-- A call that a take or a gathering began goes on. The pass is as it was when the queue was made.
+module _ {T : Type 0} (words : Words T) (holder : Holder T) (pass made : Pass) (same : made ≡ pass) (queue : Further) (empty : IsEmpty (further_in queue) pass) where
+  pub resumes_under : IsHolderFor words holder pass → IsUnderWay words holder queue made
+  resumes_under is = subst (IsUnderWay words holder queue) (sym same)
+      (record { holds = is; queue_is = (empty.0, subst (λ (held : List (HeldKey Logged)). AreToldIn pass.seen held) (sym empty.1) tt) })
+
+  pub resumes_at : BeginsToAttempt holder.key → IsToMark holder.key (further_in queue)
+  resumes_at at = (at.0, at.1 ∙ sym (ap labels_of empty.1))
+
+  module _ (had : Had) (settled : CallState) (retired : Bool) (settles : Settles 0 (record { key = holder.key; pass = made; batch = keys_in holder.batch; queue = further_in queue; had = had }) settled retired) where
+    here : Settles 0 (record { key = holder.key; pass = pass; batch = keys_in holder.batch; queue = further_in queue; had = had }) settled retired
+    here = subst (λ (p : Pass). Settles 0 (record { key = holder.key; pass = p; batch = keys_in holder.batch; queue = further_in queue; had = had }) settled retired) same settles
+
+    pub has_resumed : (key' : SlotKey) (pass' : Pass) (values' : ValueKeys) (had' : Had) → Ends settled key' pass' values' had' → HasBatch key' pass' values' → Resumes holder.key pass (keys_in holder.batch) had key' pass' values' had'
+    has_resumed key' pass' values' had' ends batch =
+        let on = onward_twice holder.key settled.key key' pass settled.pass pass' (settles_on 0 _ settled retired here) (ends_on settled key' pass' values' had' ends) in
+        record {
+          queue = further_in queue;
+          none = ap labels_of empty.1;
+          settled = settled;
+          retired = retired;
+          settles = here;
           ends = ends;
           rests = call_rests settled key' pass' values' had' ends holder.key pass on batch;
           active = on.active;

@@ -12,6 +12,9 @@
 --     Flushes key pass values had key' pass' values' had' retired     a flush: it began, settled a batch that wasn't empty, and ended
 --     RetiresOne key pass v kept values had key' pass' values' had' retired     a retirement: it began, v was put, of which this is
 --                        kept, and then it settled with v as the last, drained its queue, and returned (DrainsOne, Ends)
+--     BeginsToAttempt key    the slot's call is to read the first head, with nothing in its queue
+--     Resumes key pass values had key' pass' values' had'     so a call stood that a take or a gathering began: it attempted the batch
+--                        (Settles), drained its queue, and returned
 --     job_of stays, life_when stays life     the job of a slot that swaps its head out, and stays active or not;  the lifetime that begins
 --                        then, and none where the slot leaves
 --     SwapsOut job swap s pass out walk     `out` is the pass after the swap and before the first count: a call of slot s began with this
@@ -46,6 +49,7 @@ use Rattle.seize_book.specs.declared.book.value_keys.ValueKeys.{ValueKeys}
 use Rattle.seize_calls.specs.Alone.{AddsAlone, AddsOwn}
 use Rattle.seize_calls.specs.Handing.{Had, Handings, HasHad, values_handed, values_put, words_put}
 use Rattle.seize_calls.specs.Inserts.{Continues}
+use Rattle.seize_calls.specs.Marks.{BeginsToMark}
 use Rattle.seize_calls.specs.Settling.{CallState, DrainsAll, DrainsOne, HasBatch, HasQueue, Settles, done_event}
 use Rattle.seize_calls.specs.Walking.{handed_in, steps}
 
@@ -111,6 +115,21 @@ pub record RetiresOne (key : SlotKey) (pass : Pass) (v kept : ℕ) (values : Val
   pub begins : BeginsSo key pass (Retire v) (kept ∷ []) values had begun
   pub settled : CallState
   pub drains_one : DrainsOne begun v kept settled retired
+  pub ends : Ends settled key' pass' values' had'
+  pub rests : Rests key pass key' pass' values'
+  pub active : active_of key' ≡ active_of key
+  pub life : life_of key' ≡ life_of key
+
+abbrev pub BeginsToAttempt : SlotKey → Type 0
+BeginsToAttempt key = (at : BeginsToMark key) × (at.queue ≡ [])
+
+pub record Resumes (key : SlotKey) (pass : Pass) (values : ValueKeys) (had : Had) (key' : SlotKey) (pass' : Pass) (values' : ValueKeys)
+    (had' : Had) : Type 0 where
+  pub queue : ValueKeys
+  pub none : values_of queue ≡ []
+  pub settled : CallState
+  pub retired : Bool
+  pub settles : Settles 0 (record { key = key; pass = pass; batch = values; queue = queue; had = had }) settled retired
   pub ends : Ends settled key' pass' values' had'
   pub rests : Rests key pass key' pass' values'
   pub active : active_of key' ≡ active_of key

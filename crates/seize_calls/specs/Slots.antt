@@ -1,9 +1,14 @@
 -- The words in which the contracts of a slot as one value speak.
 --     IsOfList n slot          it is a slot of the list with this name, in use or not. What its key knows was seen, and so was for each
 --                              value in its batch which word is kept of it;  IsOfWords words slot     of the list of these words
---     IsInUse slot, IsInactive slot, IsActive slot     its number is in use;  it is inactive, or active: as its key knows
+--     IsInUse slot             its number is in use, and no call of it is under way
+--     IsToAttempt slot         its number is in use, and its call is to read the first head, with nothing in its queue
+--     IsInactive slot, IsActive slot     it is inactive, or active: as its key knows
 --     IsSlotOf words slot      it is a slot of these words, in use;  IsFreeSlotOf words slot     its number went back, and it is inactive.
 --                              Both are of the slot's value alone, so no event of others ends them
+--     IsTakenAs begun words slot     it is a slot of these words in use, of which a call is under way that attempts its batch, or not
+--     IsRestIn n numbers rest  these are the values that slots left, as the key of the numbers knows, and for each it was seen which word
+--                              is kept of it
 --     its_number slot, seen_book slot, its_key slot, its_batch slot, its_seen slot     its number, its book, its key, the keys of its
 --                              batch, and what its passes have seen
 --     IsItsHead slot head      it is the slot's own head
@@ -11,6 +16,7 @@
 --     its_spots slot           its list of spots
 --     MakesOneSlot numbers next pass numbers' slot next' pass'     the slot was made (MakesNextSlot), and has seen what the pass has
 --     SetsUse numbers pass' numbers' slot used     the key of the numbers follows, and which are in use is as before, but for this slot's
+--     KeepsUse numbers pass' numbers'     so it follows, and they are in use as before
 --     MayEnterWith slot a      the slot is inactive, and it is an activation of it, with all units
 --     InActivation slot a      the slot is active, and this is its activation, which has begun, as was seen
 --     HasActivation slot a     and with all units
@@ -24,17 +30,20 @@
 --     SlotEnters, SlotRetires, SlotFlushes, SlotLeaves, SlotRefreshes     so a call of the slot did, with this pass and with what the
 --                              reclaimer had: see `RetiresOne`, `Flushes` and `Leaves`;  SlotGoes stays slot pass life had slot' pass' had'
 --                              left or refreshed, by whether it stays active
---     SlotGives, SlotTakes     its number went back by the event `Give`, or was taken again by `Take`; it keeps its batch
+--     SlotGives, SlotTakes, SlotGathers     its number went back by the event `Give`, or was taken again by `Take`; or it began to gather
+--     SlotResumes              a call that a take or a gathering began went on to its return (Resumes)
 --     SlotLooks slot pass slot' pass'     pass and key looked at the list, where the slot is as its key knew; it keeps its batch
 use Rattle.std.specs.Prelude.{◌≡◌, ℕ, Bool, true, false, List, Some, slice_set}
 use mathlib.Core.List.{IsPrefix}
-use Rattle.seize_machine.specs.Machine.Event.{Enter, Give, SwapOut, Take}
+use Rattle.seize_machine.specs.Machine.Event.{Begin, Enter, Give, SwapOut, Take}
+use Rattle.seize_machine.specs.Machine.State.{is_idle, no_slot}
+use Rattle.seize_machine.specs.declared.machine.event.Job.TheVariants.{Gather}
 use Rattle.seize_store.specs.declared.spot.Spots.{Spots}
 use Rattle.seize_book.specs.Book.{IsLegalList}
 use Rattle.seize_book.specs.Entry.{Entry}
-use Rattle.seize_book.specs.Kept.{AreTold}
+use Rattle.seize_book.specs.Kept.{AreTold, AreToldIn}
 use Rattle.seize_book.specs.Lending.{IsLentKey}
-use Rattle.seize_book.specs.Others.{FollowsNumbers, MayRetire, book_of, use_flags, value_of}
+use Rattle.seize_book.specs.Others.{FollowsNumbers, MayRetire, book_of, numbers_saw, rest_of, use_flags, value_of}
 use Rattle.seize_book.specs.Passes.{IsSamePass, MadeNone}
 use Rattle.seize_book.specs.Slots.{AddsDeed, AddsEvent, LooksWithSlotKey, active_of, life_of, own_list, slot_number, slot_of}
 use Rattle.seize_book.specs.Tokens.{IsSole, Name, start}
@@ -43,6 +52,7 @@ use Rattle.seize_book.specs.declared.book.pass.Pass.{Pass}
 use Rattle.seize_book.specs.declared.book.slot_key.SlotKey.{SlotKey}
 use Rattle.seize_book.specs.declared.book.value_key.ValueKey.{ValueKey}
 use Rattle.seize_book.specs.declared.book.value_keys.ValueKeys.{ValueKeys}
+use Rattle.seize_book.specs.Values.{book_in, values_of}
 use Rattle.seize_words.specs.Activations.{HasAllUnits}
 use Rattle.seize_words.specs.Joined.{words_book}
 use Rattle.seize_words.specs.LinkWords.{value_held}
@@ -58,10 +68,11 @@ use Rattle.seize_words.specs.declared.link.MaybeKey.{MaybeKey}
 use Rattle.seize_words.specs.declared.reservation.Head.{Head}
 use Rattle.seize_words.specs.declared.words.Words.{Words}
 use Rattle.seize_calls.specs.Batches.{keys_in}
-use Rattle.seize_calls.specs.Calls.{Flushes, HasBegun, Leaves, RetiresOne, job_of, life_when}
+use Rattle.seize_calls.specs.Calls.{BeginsToAttempt, Flushes, HasBegun, Leaves, Resumes, RetiresOne, job_of, life_when}
 use Rattle.seize_calls.specs.Handing.{Had}
 pub use Rattle.seize_calls.specs.Together.{IsPassFor}
 use Rattle.seize_calls.specs.Together.{what_saw}
+use Rattle.seize_calls.specs.declared.batch.Batch.{Batch}
 use Rattle.seize_calls.specs.declared.slot.Loose.{Loose}
 use Rattle.seize_calls.specs.declared.slot.Slot.{Slot}
 
@@ -74,7 +85,10 @@ abbrev pub IsOfWords : {T : Type 0} → Words T → Slot T → Type 0
 IsOfWords words slot = IsOfList (words_book words) slot
 
 abbrev pub IsInUse : {T : Type 0} → Slot T → Type 0
-IsInUse slot = (slot_of slot.holder.key).used ≡ true
+IsInUse slot = is_idle (slot_of slot.holder.key) ≡ true
+
+abbrev pub IsToAttempt : {T : Type 0} → Slot T → Type 0
+IsToAttempt slot = ((slot_of slot.holder.key).used ≡ true) × BeginsToAttempt slot.holder.key
 
 abbrev pub IsActive : {T : Type 0} → Slot T → Type 0
 IsActive slot = active_of slot.holder.key ≡ true
@@ -86,7 +100,16 @@ abbrev pub IsSlotOf : {T : Type 0} → Words T → Slot T → Type 0
 IsSlotOf words slot = IsOfWords words slot × IsInUse slot
 
 abbrev pub IsFreeSlotOf : {T : Type 0} → Words T → Slot T → Type 0
-IsFreeSlotOf words slot = IsOfWords words slot × ((slot_of slot.holder.key).used ≡ false) × IsInactive slot
+IsFreeSlotOf words slot = IsOfWords words slot × (slot_of slot.holder.key ≡ no_slot) × IsInactive slot
+
+abbrev pub IsTakenAs : {T : Type 0} → Bool → Words T → Slot T → Type 0
+IsTakenAs true words slot = IsOfWords words slot × IsToAttempt slot
+IsTakenAs false words slot = IsSlotOf words slot
+
+pub record IsRestIn (n : Name) (numbers : NumbersKey) (rest : Batch) : Type 0 where
+  pub book : book_in (keys_in rest) ≡ n
+  pub values : values_of (keys_in rest) ≡ rest_of numbers
+  pub told : AreToldIn (numbers_saw numbers) (keys_in rest).keys.held
 
 abbrev pub its_number : {T : Type 0} → Slot T → ℕ
 its_number slot = slot.number
@@ -120,6 +143,9 @@ MakesOneSlot numbers next pass numbers' slot next' pass' =
 abbrev pub SetsUse : {T : Type 0} → NumbersKey → Pass → NumbersKey → Slot T → Bool → Type 0
 SetsUse numbers pass' numbers' slot used =
     FollowsNumbers numbers pass' numbers' × (use_flags numbers' ≡ slice_set (use_flags numbers) slot.number used)
+
+abbrev pub KeepsUse : NumbersKey → Pass → NumbersKey → Type 0
+KeepsUse numbers pass' numbers' = FollowsNumbers numbers pass' numbers' × (use_flags numbers' ≡ use_flags numbers)
 
 abbrev pub MayEnterWith : {T : Type 0} → Slot T → Activation → Type 0
 MayEnterWith slot a = IsInactive slot × IsOfSlot slot.holder.key a
@@ -198,12 +224,19 @@ SlotRefreshes slot pass a had slot' pass' had' = SlotGoes true slot pass a.life 
 abbrev pub SlotGives : {T : Type 0} → Slot T → Pass → Slot T → Pass → Type 0
 SlotGives slot pass slot' pass' =
     CallsWith slot pass slot' pass' (λ p. AddsEvent (its_key slot) p (its_key slot') pass' (Give (its_number slot)))
-    × (slot'.holder.batch ≡ slot.holder.batch)
 
 abbrev pub SlotTakes : {T : Type 0} → Slot T → Pass → Slot T → Pass → Type 0
 SlotTakes slot pass slot' pass' =
     CallsWith slot pass slot' pass' (λ p. AddsEvent (its_key slot) p (its_key slot') pass' (Take (its_number slot)))
-    × (slot'.holder.batch ≡ slot.holder.batch)
+
+abbrev pub SlotGathers : {T : Type 0} → Slot T → Pass → Slot T → Pass → Type 0
+SlotGathers slot pass slot' pass' =
+    CallsWith slot pass slot' pass' (λ p. AddsEvent (its_key slot) p (its_key slot') pass' (Begin (its_number slot) Gather))
+
+abbrev pub SlotResumes : {T : Type 0} → Slot T → Pass → Had → Slot T → Pass → Had → Type 0
+SlotResumes slot pass had slot' pass' had' =
+    CallsWith slot pass slot' pass' (λ p.
+    Resumes (its_key slot) p (its_batch slot) had (its_key slot') pass' (its_batch slot') had')
 
 abbrev pub SlotLooks : {T : Type 0} → Slot T → Pass → Slot T → Pass → Type 0
 SlotLooks slot pass slot' pass' =

@@ -1,13 +1,13 @@
 -- What the parts of a slot have to do with one another, and with the words and the pass of a call.
 --     what_saw book            what a pass knows that has seen what the book has
---     BelongTogether number holder seen     the holder's key is that of the slot of this number, which is there, as was seen, and has no
---                              call under way; it has the keys of its batch; and its spots are of the store where the blocks lie
+--     BelongTogether number holder seen     the holder's key is that of the slot of this number, which is there, as was seen; it has the
+--                              keys of its batch; and its spots are of the store where the blocks lie
 --     IsPassFor words pass     it is a pass of the words' book, with their batch size
 --     IsKeyFor words key pass     and so is the key, and the pass has seen what it knows
 --     IsHolderFor words holder pass     so it is with the holder's key; its spots are of the words' store, and of the values of its batch
 --                              the list says what is kept
 --     IsUnderWay words holder queue pass     and so it is with the values of the call's queue
-use Rattle.std.specs.Prelude.{◌≡◌, ℕ, ◌<◌, None}
+use Rattle.std.specs.Prelude.{◌≡◌, ℕ, ◌<◌}
 use Rattle.seize_store.specs.Named.{AreOfStore}
 use Rattle.seize_book.specs.Kept.{AreTold}
 use Rattle.seize_book.specs.Slots.{IsKeyOfBook, slot_number, slot_of}
@@ -33,7 +33,6 @@ pub record BelongTogether {T : Type 0} (number : ℕ) (holder : Holder T) (seen 
   pub book : holder.key.keys.name ≡ seen.name
   pub numbered : slot_number holder.key ≡ number
   pub there : number < slots_seen (what_saw seen)
-  pub call : (slot_of holder.key).call ≡ None
   pub batch_is : AreOfBook (keys_in holder.batch) (what_saw seen) × (values_of (keys_in holder.batch) ≡ (slot_of holder.key).batch)
   pub spots_in : AreOfStore holder.spots seen.name.store
 

@@ -42,7 +42,7 @@ impl<T: Drop> Holder<T> {
     ghost use Rattle.seize_book.specs.Slots.{slot_of};
     ghost use Rattle.seize_words.specs.Joined.{words_book};
     ghost use Rattle.seize_calls.specs.Batches.{keys_in};
-    ghost use Rattle.seize_calls.specs.Calls.{Ends, Flushes, HasBegun, Leaves, RetiresOne};
+    ghost use Rattle.seize_calls.specs.Calls.{BeginsToAttempt, Ends, Flushes, HasBegun, Leaves, Resumes, RetiresOne};
     ghost use Rattle.seize_calls.specs.Furthers.{further_in};
     ghost use Rattle.seize_calls.specs.Together.{IsHolderFor, IsUnderWay};
     ghost use Rattle.seize_calls.specs.Laying.{Lays};
@@ -71,6 +71,28 @@ impl<T: Drop> Holder<T> {
         let retired = self.settle(words, 1, &mut queue, reclaimer, pass, manner);
         self.finish(words, &mut queue, reclaimer, pass, manner);
         retired
+    }
+
+    /// Goes on with a call that a take or a gathering began: attempts the slot's batch, at any length.
+    ///
+    /// It takes no memory and waits as `flush` does.
+    pub fn resume<R: Reclaim<T>, M: Drainer<T, R>>(
+        &mut self,
+        words: &Words<T>,
+        reclaimer: &mut R,
+        pass: &mut Pass,
+        manner: &M,
+    )
+        requires holder { IsHolderFor words.now self.old pass.old × BeginsToAttempt self.old.key }
+        requires serves { R.serves reclaimer.old (words_book words.now) × M.may manner.now pass.old.id }
+        ensures holder { IsHolderFor words.now self.new pass.new × R.serves reclaimer.new (words_book words.now) }
+        ensures laid { Lays pass.old self.old.spots pass.new self.new.spots }
+        ensures resumes { let had = R.had reclaimer.old in let had' = R.had reclaimer.new in
+            Resumes self.old.key pass.old (keys_in self.old.batch) had self.new.key pass.new (keys_in self.new.batch) had' }
+    {
+        let mut queue = Further::new(pass);
+        self.settle_full(words, &mut queue, reclaimer, pass, manner);
+        self.finish(words, &mut queue, reclaimer, pass, manner);
     }
 
     /// Retires the value of this key, which lies in the block of this number: it joins the slot's batch, and comes last. What its owner

@@ -9,7 +9,7 @@
 #![tactic(auto)]
 
 mod attempt;
-mod batch;
+pub mod batch;
 mod chain;
 pub mod draining;
 pub mod further;

@@ -74,10 +74,10 @@ impl<T: Drop> Holder<T> {
         self.settle_full(words, queue, reclaimer, pass, manner)
     }
 
-    // The same where the batch is to be attempted. It is kept out of the calls, so that those which attempt none are short.
+    /// The same where the batch is to be attempted. It is kept out of the calls, so that those which attempt none are short.
     #[cold]
     #[inline(never)]
-    fn settle_full<R: Reclaim<T>, M: Manner>(
+    pub(crate) fn settle_full<R: Reclaim<T>, M: Manner>(
         &mut self,
         words: &Words<T>,
         queue: &mut Further,

@@ -79,7 +79,7 @@ impl Loose {
 }
 
 /// A slot, with all that belongs to it (`Holder`). For each value that a call hands, in order, the chunk of its block comes to its list of
-/// spots, last (`laid`). No call of the slot is under way.
+/// spots, last (`laid`). No call of the slot is under way, but one that a take or a gathering began, until `resume`.
 ///
 /// Where it is dropped, its slot stays as it is for good: active if it is active, and with its batch.
 #[derive(Drop)]
@@ -91,9 +91,12 @@ pub struct Slot<T> {
 }
 
 impl<T: Drop> Slot<T> {
-    ghost use Rattle.std.specs.Prelude.{length, min, ◌-◌, ◌^◌};
-    ghost use Rattle.seize_book.specs.Others.{MayTakeNumber};
-    ghost use Rattle.seize_book.specs.Slots.{slot_of};
+    ghost use Rattle.std.specs.Prelude.{get_or, length, min, ◌-◌, ◌^◌, ◌&&◌};
+    ghost use Rattle.seize_book.specs.Others.{MayGather, MayGive, MayTakeNumber, use_flags};
+    ghost use Rattle.seize_book.specs.Slots.{active_of, slot_of};
+    ghost use Rattle.seize_book.specs.Values.{values_of};
+    ghost use Rattle.seize_calls.specs.Batches.{keys_in};
+    ghost use Rattle.seize_machine.specs.Machine.Next.{is_empty};
     ghost use Rattle.seize_table.specs.declared.refusal.Refusal.TheVariants.{NoMemory};
     ghost use Rattle.seize_words.specs.Reservations.{IsOfSlot};
     ghost use Rattle.seize_words.specs.Reserved.{HasNextSlot, IsSameNext};
@@ -105,7 +108,9 @@ impl<T: Drop> Slot<T> {
     ghost use Rattle.seize_calls.specs.Calls.{HasBegun};
     ghost use Rattle.seize_calls.specs.Slots.{HasActivation, InActivation, IsLooseOf, IsPassFor, KeepsActivation, MayEnterWith};
     ghost use Rattle.seize_calls.specs.Slots.{IsActive, IsFreeSlotOf, IsInactive, IsItsHead, IsOfWords, IsSlotOf};
-    ghost use Rattle.seize_calls.specs.Slots.{SlotEnters, SlotFlushes, SlotGives, SlotGoes, SlotLeaves, SlotLooks, SlotRefreshes, SlotRetires, SlotTakes};
+    ghost use Rattle.seize_calls.specs.Slots.{IsRestIn, IsTakenAs, KeepsUse};
+    ghost use Rattle.seize_calls.specs.Slots.{SlotEnters, SlotFlushes, SlotGathers, SlotGives, SlotGoes, SlotLeaves, SlotLooks, SlotRefreshes};
+    ghost use Rattle.seize_calls.specs.Slots.{SlotResumes, SlotRetires, SlotTakes};
 
     /// Makes the slot that comes next, which is inactive and has no batch. It takes memory for its list of spots first, and for a bucket of
     /// the table of heads where that has none for it.
@@ -222,36 +227,109 @@ impl<T: Drop> Slot<T> {
         unit.lasts(pass);
     }
 
-    /// The slot's number goes back. The slot is inactive and keeps its batch; it can do no more until the number is taken again.
+    /// Whether nothing is left where the slot ends: its batch and the rest have no values. It compares two words.
+    pub fn leaves_nothing(&self, rest: &Batch) -> bool
+        ensures { result ≡ (is_empty (slot_of (its_key self.now)).batch && is_empty (values_of (keys_in rest.now))) }
+    {
+        self.holder.batch.is_empty() && rest.is_empty()
+    }
+
+    /// The slot's number goes back. The slot is inactive, and its batch joins the rest, behind what is there. It can do no more until the
+    /// number is taken again.
     ///
     /// It takes no memory, makes no atomic step and waits for nobody.
-    pub fn give(&mut self, _words: &Words<T>, numbers: &mut NumbersKey, pass: &mut Pass)
-        requires of { IsSlotOf _words.now self.old × IsPassFor _words.now pass.old }
-        requires numbers { AreNumbersOf numbers.old pass.old }
-        requires outside { IsInactive self.old }
-        ensures of { IsFreeSlotOf _words.now self.new }
+    pub fn give(
+        &mut self,
+        words: &Words<T>,
+        numbers: &mut NumbersKey,
+        rest: &mut Batch,
+        pass: &mut Pass,
+    )
+        requires of { IsSlotOf words.now self.old × IsPassFor words.now pass.old × IsInactive self.old }
+        requires numbers { AreNumbersOf numbers.old pass.old × IsRestIn (words_book words.now) numbers.old rest.old }
+        requires may { MayGive numbers.old (its_key self.old) }
+        ensures of { IsFreeSlotOf words.now self.new }
         ensures gives { SlotGives self.old pass.old self.new pass.new }
-        ensures numbers { SetsUse numbers.old pass.new numbers.new self.old false }
+        ensures was { get_or (use_flags numbers.old) (its_number self.old) false ≡ true }
+        ensures numbers { SetsUse numbers.old pass.new numbers.new self.old false × IsRestIn (words_book words.now) numbers.new rest.new }
     {
         pass.learn(&self.seen);
         self.holder.key.give(numbers, pass);
+        rest.append(&words.blocks, &mut self.holder.batch);
         self.seen.learn(pass);
     }
 
-    /// The slot's number, which went back, is taken again: it is the least that is not in use. Then the slot may enter, as a new one may,
-    /// and it has the batch that it kept.
+    /// The slot's number, which went back, is taken again: it is the least that is not in use. The rest is the slot's batch then. It says
+    /// whether that is full: then a call of the slot is under way, which attempts it, and only `resume` can be called.
     ///
     /// It takes no memory, makes no atomic step and waits for nobody.
-    pub fn take_again(&mut self, _words: &Words<T>, numbers: &mut NumbersKey, pass: &mut Pass)
-        requires of { IsFreeSlotOf _words.now self.old × IsPassFor _words.now pass.old }
-        requires numbers { AreNumbersOf numbers.old pass.old × MayTakeNumber numbers.old (its_key self.old) }
-        ensures of { IsSlotOf _words.now self.new }
-        ensures outside { IsInactive self.new }
+    pub fn take_again(
+        &mut self,
+        words: &Words<T>,
+        numbers: &mut NumbersKey,
+        rest: &mut Batch,
+        pass: &mut Pass,
+    ) -> bool
+        requires of { IsFreeSlotOf words.now self.old × IsPassFor words.now pass.old }
+        requires numbers { AreNumbersOf numbers.old pass.old × IsRestIn (words_book words.now) numbers.old rest.old }
+        requires may { MayTakeNumber numbers.old (its_key self.old) }
+        ensures of { IsTakenAs result words.now self.new × IsInactive self.new }
         ensures takes { SlotTakes self.old pass.old self.new pass.new }
-        ensures numbers { SetsUse numbers.old pass.new numbers.new self.old true }
+        ensures numbers { SetsUse numbers.old pass.new numbers.new self.old true × IsRestIn (words_book words.now) numbers.new rest.new }
     {
+        let full = rest.is_full(words.size);
         pass.learn(&self.seen);
         self.holder.key.take_again(numbers, pass);
+        self.holder.batch.append(&words.blocks, rest);
+        self.seen.learn(pass);
+        full
+    }
+
+    /// The slot, which is the only one in use and inactive, begins to gather: the rest comes before its batch, and a call of the slot is
+    /// under way, which attempts both. Only `resume` can be called then.
+    ///
+    /// It takes no memory, makes no atomic step and waits for nobody.
+    pub fn gather(
+        &mut self,
+        words: &Words<T>,
+        numbers: &mut NumbersKey,
+        rest: &mut Batch,
+        pass: &mut Pass,
+    )
+        requires of { IsSlotOf words.now self.old × IsPassFor words.now pass.old × IsInactive self.old }
+        requires numbers { AreNumbersOf numbers.old pass.old × IsRestIn (words_book words.now) numbers.old rest.old }
+        requires may { MayGather numbers.old (its_key self.old) }
+        ensures of { IsTakenAs true words.now self.new × IsInactive self.new }
+        ensures gathers { SlotGathers self.old pass.old self.new pass.new }
+        ensures numbers { KeepsUse numbers.old pass.new numbers.new × IsRestIn (words_book words.now) numbers.new rest.new }
+    {
+        pass.learn(&self.seen);
+        self.holder.key.begin_gather(numbers, pass);
+        rest.append(&words.blocks, &mut self.holder.batch);
+        self.holder.batch.append(&words.blocks, rest);
+        self.seen.learn(pass);
+    }
+
+    /// Goes on with the call that a take or a gathering began: attempts the slot's batch. What reclaimers put meanwhile joins the slot's
+    /// batch, as with `retire`.
+    ///
+    /// It takes no memory and waits as `retire` does.
+    pub fn resume<R: Reclaim<T>, M: Drainer<T, R>>(
+        &mut self,
+        words: &Words<T>,
+        reclaimer: &mut R,
+        pass: &mut Pass,
+        manner: &M,
+    )
+        requires of { IsTakenAs true words.now self.old × IsPassFor words.now pass.old × M.may manner.now pass.old.id }
+        requires serves { R.serves reclaimer.old (words_book words.now) }
+        ensures of { IsSlotOf words.now self.new × (active_of (its_key self.new) ≡ active_of (its_key self.old)) }
+        ensures serves { R.serves reclaimer.new (words_book words.now) }
+        ensures laid { Lays pass.old (its_spots self.old) pass.new (its_spots self.new) }
+        ensures resumes { SlotResumes self.old pass.old (R.had reclaimer.old) self.new pass.new (R.had reclaimer.new) }
+    {
+        pass.learn(&self.seen);
+        self.holder.resume(words, reclaimer, pass, manner);
         self.seen.learn(pass);
     }
 

@@ -343,27 +343,29 @@ fn what_threads_forget_ends_with_the_collector(rt: HostRuntime) -> Result<(), Fa
     put_in_all(&rt, &collector, &ends)?;
     assert!(rt; retire_by_many(&rt, rt.alloc(), &collector, Way::ForgetsAGuard, &ends)?);
     assert!(rt; retire_by_many(&rt, rt.alloc(), &collector, Way::Forgets, &ends)?);
-    assert_eq!(rt; ended(&ends), 0);
+    assert_eq!(rt; ended(&ends), 3);
     drop(collector);
     assert_eq!(rt; ended(&ends), 38);
     Ok(())
 }
 
-// What is in the batch of a lost registration's slot never ends, and the answer says so each time. All else ends. The first one lost has
-// the slot that put values into the links before.
+// What is in the batch of a lost registration's slot never ends, and the answer says so each time. All else ends: what was retired before,
+// what forgotten slots have in their batches, and what those left that ended beside the lost ones.
 #[test]
 fn what_lost_registrations_retired_does_not_end(rt: HostRuntime) -> Result<(), Fail> {
     let ends = AtomicU64::new(0);
     let mut collector = collector(rt.alloc())?;
     put_in_all(&rt, &collector, &ends)?;
-    for many in [16, 32] {
+    for (before, after) in [(3, 35), (35, 67)] {
         assert!(rt; retire_by_many(&rt, rt.alloc(), &collector, Way::Loses, &ends)?);
         assert!(rt; retire_by_many(&rt, rt.alloc(), &collector, Way::Forgets, &ends)?);
+        assert!(rt; retire_by_many(&rt, rt.alloc(), &collector, Way::Ends, &ends)?);
+        assert_eq!(rt; ended(&ends), before);
         assert!(rt; !collector.reclaim_all(&mut ()));
-        assert_eq!(rt; ended(&ends), many);
+        assert_eq!(rt; ended(&ends), after);
     }
     drop(collector);
-    assert_eq!(rt; ended(&ends), 35);
+    assert_eq!(rt; ended(&ends), 70);
     Ok(())
 }
 

@@ -88,15 +88,19 @@ fn retire<'a>(
     Ok(())
 }
 
-// One slot retires 1 as of the first kind, 2 and 8 as of the second, and 4 as of the third.
-fn retire_four<'a>(rt: &impl Wait, collector: &Summing<'a>) -> Result<(), Refusal> {
+// One slot retires 1 as of the first kind, 2 and 8 as of the second, and 4 as of the third. It ends, or is forgotten.
+fn retire_four<'a>(rt: &impl Wait, collector: &Summing<'a>, ends: bool) -> Result<(), Refusal> {
     let mut pass = collector.pass();
     let registration = collector.register(rt, &mut pass)?;
     let one = retire(rt, &registration, 1, 0, &mut pass);
     let two = retire(rt, &registration, 2, SECOND, &mut pass);
     let four = retire(rt, &registration, 4, u64::MAX, &mut pass);
     let eight = retire(rt, &registration, 8, SECOND, &mut pass);
-    registration.end(rt, &mut pass);
+    if ends {
+        registration.end(rt, &mut pass);
+    } else {
+        registration.forget();
+    }
     one.and(two).and(four).and(eight)
 }
 
@@ -104,7 +108,7 @@ fn retire_four<'a>(rt: &impl Wait, collector: &Summing<'a>) -> Result<(), Refusa
 fn a_full_batch_goes_to_the_reclaimer(rt: HostRuntime) -> Result<(), Fail> {
     let all = no_sums();
     let collector = collector(rt.alloc(), 4, &all)?;
-    retire_four(&rt, &collector)?;
+    retire_four(&rt, &collector, false)?;
     assert_eq!(rt; sums_of(&all), (1, 10, 4));
     drop(collector);
     assert_eq!(rt; sums_of(&all), (1, 10, 4));
@@ -115,13 +119,25 @@ fn a_full_batch_goes_to_the_reclaimer(rt: HostRuntime) -> Result<(), Fail> {
 fn what_waits_goes_to_the_reclaimer_once(rt: HostRuntime) -> Result<(), Fail> {
     let all = no_sums();
     let mut collector = collector(rt.alloc(), 32, &all)?;
-    retire_four(&rt, &collector)?;
+    retire_four(&rt, &collector, false)?;
     assert_eq!(rt; sums_of(&all), (0, 0, 0));
     assert!(rt; collector.reclaim_all(&mut ()));
     assert_eq!(rt; sums_of(&all), (1, 10, 4));
-    retire_four(&rt, &collector)?;
+    retire_four(&rt, &collector, false)?;
     drop(collector);
     assert_eq!(rt; sums_of(&all), (2, 20, 8));
+    Ok(())
+}
+
+// The last slot in use ends, and so does all that it retired.
+#[test]
+fn the_last_end_calls_the_reclaimer(rt: HostRuntime) -> Result<(), Fail> {
+    let all = no_sums();
+    let collector = collector(rt.alloc(), 32, &all)?;
+    retire_four(&rt, &collector, true)?;
+    assert_eq!(rt; sums_of(&all), (1, 10, 4));
+    drop(collector);
+    assert_eq!(rt; sums_of(&all), (1, 10, 4));
     Ok(())
 }
 

@@ -1,7 +1,10 @@
-//! Tests of what ends, and of what a reclaimer has: as a collector is dropped, in `reclaim_all`, and where guards, registrations or passes
-//! were forgotten. They stand in a crate of their own, so that they are proved beside the other tests of the collector.
+//! Tests of what ends, and of what a reclaimer has: as a collector is dropped, in `reclaim_all`, as slots end, and where guards,
+//! registrations or passes were forgotten. They stand in a crate of their own, so that they are proved beside the other tests of the
+//! collector.
 #![tactic(auto)]
 
+#[cfg(test)]
+mod crowd;
 #[cfg(test)]
 mod ending;
 #[cfg(test)]
@@ -10,6 +13,8 @@ mod forgotten;
 mod handed;
 #[cfg(test)]
 mod kinds;
+#[cfg(test)]
+mod left;
 #[cfg(test)]
 mod reclaiming;
 #[cfg(test)]

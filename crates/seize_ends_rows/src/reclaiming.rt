@@ -16,11 +16,26 @@ use std::test::*;
 use std::thread::Threads;
 use std::{mem, thread};
 
+// A slot puts six values into three links beside another one, which is forgotten then. So the three that came out are left.
+fn forget_beside<'a>(
+    rt: &impl Wait,
+    collector: &Counting<'a>,
+    ends: &'a AtomicU64,
+) -> Result<(), Refusal>
+    requires { its_links collector.now ≡ 3 }
+{
+    let mut pass = collector.pass();
+    let registration = collector.register(rt, &mut pass)?;
+    let put = put_in_all(rt, collector, ends);
+    registration.forget();
+    put
+}
+
 #[test]
 fn what_was_retired_ends_and_links_stay(rt: HostRuntime) -> Result<(), Fail> {
     let ends = AtomicU64::new(0);
     let mut collector = collector(rt.alloc())?;
-    put_in_all(&rt, &collector, &ends)?;
+    forget_beside(&rt, &collector, &ends)?;
     assert_eq!(rt; ended(&ends), 0);
     assert!(rt; collector.reclaim_all(&mut ()));
     assert_eq!(rt; ended(&ends), 3);
@@ -50,6 +65,7 @@ fn what_two_threads_retired_ends(rt: HostRuntime) -> Result<(), Fail> {
     let ends = AtomicU64::new(0);
     let mut collector = collector(rt.alloc())?;
     put_by_two(&rt, &collector, &ends)?;
+    assert_eq!(rt; ended(&ends), 12 * TIMES - 3);
     assert!(rt; collector.reclaim_all(&mut ()));
     assert_eq!(rt; ended(&ends), 12 * TIMES - 3);
     drop(collector);
@@ -148,7 +164,7 @@ fn a_link_keeps_its_number_and_each_other_ends_once(rt: HostRuntime) -> Result<(
     Ok(())
 }
 
-// A slot retires two values. The pass of these calls is forgotten.
+// A slot retires two values, and is forgotten. So is the pass of these calls.
 fn forget_pass<'a>(
     rt: &impl Wait,
     collector: &Counting<'a>,
@@ -157,7 +173,7 @@ fn forget_pass<'a>(
     let mut pass = collector.pass();
     let registration = collector.register(rt, &mut pass)?;
     retire(rt, collector, &registration, 2, ends, &mut pass);
-    registration.end(rt, &mut pass);
+    registration.forget();
     mem::forget(pass);
     Ok(())
 }

@@ -55,13 +55,13 @@ fn leave_thrice(
 ) -> Result<(), Refusal> {
     for _ in 0..2u8 {
         alone.leave(0, &mut ())?;
-        assert!(rt; !alone.end(0)?);
+        assert!(rt; !alone.end(0, &mut ())?);
     }
     assert_eq!(rt; told.load(Ordering::SeqCst), 0);
     alone.leave(0, &mut ())?;
     assert_eq!(rt; told.load(Ordering::SeqCst), 321);
-    assert!(rt; alone.end(0)?);
-    assert_eq!(rt; alone.register()?, 0);
+    assert!(rt; alone.end(0, &mut ())?);
+    assert_eq!(rt; alone.register(&mut ())?, 0);
     Ok(())
 }
 
@@ -118,7 +118,7 @@ fn what_was_taken_over_goes_as_all_is_reclaimed(rt: HostRuntime) -> Result<(), F
     assert_eq!(rt; told.load(Ordering::SeqCst), 0);
     alone.reclaim_all(&mut ());
     assert_eq!(rt; told.load(Ordering::SeqCst), 321);
-    assert_eq!(rt; alone.register()?, 0);
+    assert_eq!(rt; alone.register(&mut ())?, 0);
     Ok(())
 }
 
@@ -191,7 +191,7 @@ fn what_one_caller_left_goes_as_another_reclaims_all(rt: HostRuntime) -> Result<
     let mut heard = Digits { all: 0 };
     alone.reclaim_all(&mut heard);
     assert_eq!(rt; (heard.all, told.load(Ordering::SeqCst)), (4321, 4321));
-    assert_eq!(rt; alone.register()?, 0);
+    assert_eq!(rt; alone.register(&mut ())?, 0);
     Ok(())
 }
 
@@ -202,12 +202,12 @@ fn leave_owned(
     told: &AtomicU64,
 ) -> Result<(), Refusal> {
     assert!(rt; matches!(alone.enter(0), Err(Refusal::WrongKind)));
-    assert_eq!(rt; alone.register()?, 1);
+    assert_eq!(rt; alone.register(&mut ())?, 1);
     assert_eq!(rt; told.load(Ordering::SeqCst), 0);
     alone.leave(0, &mut ())?;
     assert_eq!(rt; told.load(Ordering::SeqCst), 321);
     assert!(rt; matches!(alone.enter(0), Err(Refusal::NotInUse)));
-    assert_eq!(rt; alone.enter_owned()?, 0);
+    assert_eq!(rt; alone.enter_owned(&mut ())?, 0);
     Ok(())
 }
 
@@ -220,6 +220,41 @@ fn what_waits_for_a_forgotten_owned_guard_goes_as_its_slot_leaves(
     assert!(rt; forget_owned(&rt, &collector, &told)?);
     match collector.alone() {
         Ok(mut alone) => leave_owned(&rt, &mut alone, &told)?,
+        Err(_) => return Err(Fail::new("a holder is lost")),
+    }
+    Ok(())
+}
+
+// A registration is forgotten.
+fn forget_one(rt: &impl Wait, collector: &Telling<'_>) -> Result<(), Refusal> {
+    let mut pass = collector.pass();
+    collector.register(rt, &mut pass)?.forget();
+    Ok(())
+}
+
+// Slot 1 takes what was left and leaves it again, and slot 0 is the last one that ends.
+fn end_both(
+    rt: &impl Abort,
+    alone: &mut Alone<Digit<'_>>,
+    told: &AtomicU64,
+) -> Result<(), Refusal> {
+    assert_eq!(rt; alone.register(&mut ())?, 1);
+    assert!(rt; alone.end(1, &mut ())?);
+    assert_eq!(rt; told.load(Ordering::SeqCst), 0);
+    assert!(rt; alone.end(0, &mut ())?);
+    assert_eq!(rt; told.load(Ordering::SeqCst), 123);
+    Ok(())
+}
+
+// What a thread's slot left beside a forgotten one is there when one caller takes the collector over.
+#[test]
+fn what_threads_left_is_there_for_one_caller(rt: HostRuntime) -> Result<(), Fail> {
+    let told = AtomicU64::new(0);
+    let collector = telling(rt.alloc(), 4)?;
+    forget_one(&rt, &collector)?;
+    assert!(rt; retire_three(&rt, &collector, &told));
+    match collector.alone() {
+        Ok(mut alone) => end_both(&rt, &mut alone, &told)?,
         Err(_) => return Err(Fail::new("a holder is lost")),
     }
     Ok(())

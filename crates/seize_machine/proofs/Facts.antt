@@ -6,15 +6,15 @@ pub use Rattle.seize_machine.proofs.Steps.Forced.{Forced}
 -- on tests, and on how often a value stands in a list
 pub use Rattle.seize_machine.proofs.Steps.Relation.{if_some, and_true, not_true, is_true, eq_true, lt_true, some_is}
 pub use Rattle.seize_machine.proofs.Counting.Sums.{one, occ, has_none, has_some, distinct_once}
-use Rattle.std.proofs.Common.{◌≡◌, ◌≢◌, ℕ, ◌+◌, ◌<◌, ◌≤◌, pos, neg_ℤ, ◌+ℤ◌, ◌≤ℤ◌, Bool, true, false, List, [], ◌∷◌, ◌++◌, length, take, drop, Option, None, Some, ◌⊎◌, arith, subst}
+use Rattle.std.proofs.Common.{◌≡◌, ◌≢◌, ℕ, ◌+◌, ◌<◌, ◌≤◌, pos, neg_ℤ, ◌+ℤ◌, ◌≤ℤ◌, Bool, true, false, not, List, [], ◌∷◌, ◌++◌, length, take, drop, Option, None, Some, ◌⊎◌, arith, subst}
 use Rattle.std.specs.Prelude.{◌↔◌}
-use Rattle.std.specs.List.{Contains, slice_get, sum_by}
-use Rattle.seize_machine.specs.Machine.State.{State, Head, Mark, Look, Try, Add, Out, slot_at, head_at, link_at, batch_at, is_active, waiting_at, has, linked_values, are_distinct, opening, Place, Append, Rest}
+use Rattle.std.specs.List.{Contains, list_any, slice_get, sum_by}
+use Rattle.seize_machine.specs.Machine.State.{State, no_slot, Head, Mark, Look, Try, Add, Out, slot_at, head_at, link_at, batch_at, is_active, waiting_at, has, linked_values, are_distinct, opening, Place, Append, Rest}
 use Rattle.seize_machine.specs.Machine.Event.{Event, Put, SwapOut, event_slot}
 use Rattle.seize_machine.specs.Machine.Next.{next, slot_set, can_link, is_zero}
 use Rattle.seize_machine.specs.Machine.History.{Timed, is_legal, Legal, IsReached, handed_value, is_link_event, history}
-use Rattle.seize_machine.specs.Machine.Laws.{HoldsOfAll, AtMostOnce, After, Quiet, Protection, places, Whereabouts, Gone, Holders, NoLaterHolders, UnderGuard, Tries, detached_by, Lists, Walks, IsHeld}
-use Rattle.seize_machine.specs.Machine.Frames.{changes_slot, used, changes_used, changes_head_of, changes_link, changes_batch, changes_value, slots_added, batches_added, begins_retiring}
+use Rattle.seize_machine.specs.Machine.Laws.{HoldsOfAll, AtMostOnce, After, Quiet, Unused, Protection, places, Whereabouts, Gone, Holders, NoLaterHolders, UnderGuard, Tries, detached_by, Lists, Walks, IsHeld}
+use Rattle.seize_machine.specs.Machine.Frames.{changes_slot, used, changes_used, changes_numbers, changes_head_of, changes_link, changes_batch, changes_value, slots_added, batches_added, begins_retiring}
 use Rattle.seize_machine.specs.Machine.Kept.{KeptIn}
 use Rattle.seize_machine.specs.declared.machine.event.Answer.{Answer}
 use Rattle.seize_machine.specs.declared.machine.event.Answer.TheVariants.{Done, Count}
@@ -30,8 +30,8 @@ use Rattle.seize_machine.proofs.Invariants.Kept as kept
 use Rattle.seize_machine.proofs.Invariants.Live as live
 use Rattle.seize_machine.proofs.Invariants.Tried as tried
 use Rattle.seize_machine.proofs.Invariants.Noted as noted
-use Rattle.seize_machine.proofs.Invariants.Unused as unused
 use Rattle.seize_machine.proofs.Invariants.Listed as lists_once
+use Rattle.seize_machine.proofs.Invariants.Unused as unused
 pub use Rattle.seize_machine.proofs.Invariants.Listed.{IsSettled}
 use Rattle.seize_machine.proofs.Laws.AtMostOnce as at_most_once
 use Rattle.seize_machine.proofs.Laws.After as after
@@ -143,6 +143,9 @@ law_after = lists.of_all After after.law_after
 pub law_quiet : HoldsOfAll Quiet
 law_quiet = lists.of_all Quiet quiet.law_quiet
 
+pub law_unused : HoldsOfAll Unused
+law_unused = lists.of_all Unused quiet.law_unused
+
 pub law_protection : HoldsOfAll Protection
 law_protection = lists.of_all Protection protection.law_protection
 
@@ -223,10 +226,6 @@ gone_grows = live.gone_grows
 pub loose_stays : (v size : ℕ) (st : State) (event : Event) (d : State × Answer) → Step size st event d → begins_retiring v event ≡ false → has v st.loose ≡ true → has v (d.0).loose ≡ true
 loose_stays = frames.loose_stays
 
--- a slot whose number is free has no call and is not active
-pub unused_at_rest : (st : State) → IsReached st → (t : ℕ) → (slot_at st t).used ≡ false → ((slot_at st t).call ≡ None) × (is_active (head_at st t) ≡ false)
-unused_at_rest = unused.unused_at_rest
-
 -- Calls in a reached state.
 
 -- a call that is about to swap its head out is one of an active slot
@@ -297,18 +296,35 @@ count_listed = lists_once.count_listed
 pub empty_zero : (st : State) → IsReached st → (b : ℕ) → (batch_at st b).values ≡ [] → (batch_at st b).count ≡ pos 0
 empty_zero = live.empty_zero
 
+-- Numbers that are not in use, and the rest.
+
+-- the slot of a number that is not in use has no values and no call, and is inactive
+pub free_empty : (st : State) → IsReached st → (s : ℕ) → (slot_at st s).used ≡ false → (slot_at st s ≡ no_slot) × (is_active (head_at st s) ≡ false)
+free_empty = unused.free_empty
+
+-- where every number is in use the rest is empty
+pub no_rest : (st : State) → IsReached st → list_any (λ u. not u) (used st) ≡ false → st.rest ≡ []
+no_rest = unused.no_rest
+
+-- the rest, which only takes, gives and gatherings change
+pub rest_frame : (size : ℕ) (st : State) (event : Event) (d : State × Answer) → Step size st event d → changes_numbers event ≡ false → (d.0).rest ≡ st.rest
+rest_frame = frames.rest_frame
+
 -- Values in a reached state.
 
 -- the places of a value have just the named ones, each once
 pub named_placed : (st : State) → IsReached st → (are_distinct (places st) ≡ true) × ((v : ℕ) → Contains (places st) v ↔ (has v st.named ≡ true))
 named_placed = whereabouts.named_placed
 
--- a value that waits in a slot's batch, or is in a retired one, was named, and is neither out of a link nor in one
+-- a value that waits in a slot's batch or in the rest, or is in a retired batch, was named, and is neither out of a link nor in one
 pub waiting_settled : (st : State) → IsReached st → (s v : ℕ) → Contains (slot_at st s).batch v → IsSettled v st
 waiting_settled = lists_once.waiting_settled
 
 pub batched_settled : (st : State) → IsReached st → (b v : ℕ) → Contains (batch_at st b).values v → IsSettled v st
 batched_settled = lists_once.batched_settled
+
+pub rest_settled : (st : State) → IsReached st → (v : ℕ) → Contains st.rest v → IsSettled v st
+rest_settled = lists_once.rest_settled
 
 -- a batch that is held has values
 pub held_full : (st : State) → IsReached st → (b : ℕ) → IsHeld st b → 1 ≤ length (batch_at st b).values

@@ -1,14 +1,19 @@
 -- What the code of the machine needs of std's words.
-use Rattle.std.proofs.Common.{◌≡◌, ℕ, ◌+◌, zero, suc, ◌<◌, ◌≤◌, true, false, not, ◌&&◌, nat_eq, List, [], ◌∷◌, ◌++◌, length, map, take, get_or, append_assoc, Option, Some, None, refl, sym, ◌∙◌, ap, subst, arith}
-use Rattle.std.specs.List.{list_all}
-use Rattle.std.proofs.lemmas.List.{get_or_default, take_more, map_push, map-append, append_cancel_left}
+use Rattle.seize_machine.proofs.Steps.Relation.{is_true, eq_true}
+use Rattle.seize_machine.specs.declared.machine.event.Answer.TheVariants.{Illegal, Done}
+use Rattle.seize_machine.specs.declared.machine.event.Job.TheVariants.{Retire, Flush, Leave, Refresh, Gather}
+use Rattle.seize_machine.specs.declared.machine.event.Job.{Job}
+use Rattle.std.proofs.lemmas.List.Folds.{list_any_at}
+use Rattle.std.proofs.Common.{◌≡◌, ℕ, ◌+◌, zero, suc, ◌<◌, ◌≤◌, true, false, not, ◌&&◌, nat_eq, List, [], ◌∷◌, ◌++◌, length, map, take, get_or, append_assoc, Option, Some, None, refl, sym, ◌∙◌, ap, subst, arith, ◌≢◌, ◌==◌, ◌||◌, Bool, set, if◌then◌else◌, ◌⊎◌, inl, inr}
+use Rattle.std.specs.List.{list_all, list_any}
+use Rattle.std.proofs.lemmas.List.{get_or_default, take_more, map_push, map-append, append_cancel_left, get_or_past, get_or-set_same, get_or-set_other, length-set}
 use Rattle.std.proofs.lemmas.List.Sums.{position_or_len_is}
 use lib.Pointwise.{pointwise}
-use Rattle.seize_machine.specs.Machine.State.{State, Slot, Progress, Place, Append, Mark, Look, Try, Add, Out, Rest, no_slot, slot_at}
+use Rattle.seize_machine.specs.Machine.State.{State, Slot, Progress, Place, Append, Mark, Look, Try, Add, Out, Rest, no_slot, slot_at, Inactive, head_at, is_idle, is_active}
 use Rattle.seize_machine.specs.Machine.Event.{Event}
-use Rattle.seize_machine.specs.Machine.Next.{same_list, first_free, next, of_call, walking_at}
+use Rattle.seize_machine.specs.Machine.Next.{same_list, first_free, next, of_call, walking_at, Outcome, scheme, insert, insert_into, begin, is_outside, has_others, is_empty, after_gather}
 use Rattle.seize_machine.specs.Machine.History.{Timed, at_size, Moment, done_by, history, answers_of, end_of, is_legal}
-use Rattle.seize_machine.specs.Machine.Code.{event_of, SubFits, CountFits, CallCountsFit, CountsFit, Sized, HasDone, HasRun, HasRunLegally}
+use Rattle.seize_machine.specs.Machine.Code.{event_of, SubFits, CountFits, CallCountsFit, CountsFit, Sized, HasDone, HasRun, HasRunLegally, HasOutcome}
 use Rattle.seize_machine.specs.declared.machine.event.Answer.{Answer}
 use Rattle.seize_machine.specs.declared.machine.event.Event.{Event as Written}
 use Rattle.seize_machine.proofs.Lists.LegalLists.{end_of-append, history-append, are_legal-answers}
@@ -103,3 +108,60 @@ run_ends events i old new a b run past =
     take_all [] (suc n) h = refl
     take_all (x ∷ xs) zero h = absurd (omega arith)
     take_all (x ∷ xs) (suc n) h = ap (λ (l : List Written). x ∷ l) (take_all xs n (omega arith))
+
+-- what is illegal changes nothing
+pub illegal : (o : Outcome) (st : State) → o ≡ None → HasOutcome o st st Illegal
+illegal None st e = (refl, refl)
+illegal (Some d) st e = absurd (cc)
+
+-- an insertion at a head past the last
+pub past_insert : (st : State) (s m : ℕ) (o : Option (ℕ × ℕ)) → length st.heads ≤ m → insert st s m o ≡ None
+past_insert st s m None h = refl
+past_insert st s m (Some at) h = go (m == at.1)
+  where
+    off : insert_into st s m at.0 (head_at st m) ≡ None
+    off = ap (insert_into st s m at.0) (get_or_past st.heads m Inactive h)
+
+    go : (b : Bool) → (if b then insert_into st s m at.0 (head_at st m) else None) ≡ None
+    go true = off
+    go false = refl
+
+-- a call of a slot past the last
+pub past_begin : (st : State) (s : ℕ) (job : Job) → length st.slots ≤ s → begin scheme st s job ≡ None
+past_begin st s job h = go job
+  where
+    not_idle : is_idle (slot_at st s) ≡ false
+    not_idle = ap is_idle (get_or_past st.slots s no_slot h)
+
+    no : (b c : Bool) (d : State × Answer) → b ≡ false → (if b && c then Some d else None) ≡ None
+    no false c d e = refl
+    no true c d e = absurd (cc)
+
+    go : (job : Job) → begin scheme st s job ≡ None
+    go (Retire v) = no _ _ _ not_idle
+    go Flush = no _ _ _ not_idle
+    go Leave = no _ _ _ not_idle
+    go Refresh = no _ _ _ not_idle
+    go Gather = last (ap (λ (b : Bool). b && not (is_active (head_at st s))) not_idle)
+      where
+        last : is_outside st s ≡ false → begin scheme st s Gather ≡ None
+        last e = ap (λ (b : Bool). if b && not (has_others st s) && not (is_empty (slot_at st s).batch && is_empty st.rest) then Some (after_gather st s, Done) else None) e
+
+-- whether another slot is in use
+pub other_used : (slots : List Slot) (s n : ℕ) → n < length slots → n ≢ s → (get_or slots n no_slot).used ≡ true → list_any (λ slot. slot.used) (set slots s no_slot) ≡ true
+other_used slots s n within other e =
+    list_any_at (λ slot. slot.used) (set slots s no_slot) n no_slot (omega (arith, length-set slots s no_slot)) (ap (λ (slot : Slot). slot.used) (get_or-set_other slots s n no_slot no_slot other) ∙ e)
+
+none_any : (slots : List Slot) → ((k : ℕ) → k < length slots → (get_or slots k no_slot).used ≡ false) → list_any (λ slot. slot.used) slots ≡ false
+none_any [] h = refl
+none_any (slot ∷ slots) h = ap (λ (b : Bool). b || list_any (λ slot. slot.used) slots) (h zero (omega arith)) ∙ none_any slots (λ k r. h (suc k) (omega arith))
+
+pub no_other_used : (slots : List Slot) (s : ℕ) → ((k : ℕ) → k < length slots → k ≢ s → (get_or slots k no_slot).used ≡ false) → list_any (λ slot. slot.used) (set slots s no_slot) ≡ false
+no_other_used slots s h = none_any (set slots s no_slot) (λ k r. at k r)
+  where
+    at : (k : ℕ) → k < length (set slots s no_slot) → (get_or (set slots s no_slot) k no_slot).used ≡ false
+    at k r = go (is_true (k == s))
+      where
+        go : ((k == s) ≡ true) ⊎ ((k == s) ≡ false) → (get_or (set slots s no_slot) k no_slot).used ≡ false
+        go (inl t) = let same : k ≡ s = eq_true k s t in subst (λ (i : ℕ). (get_or (set slots s no_slot) i no_slot).used ≡ false) (sym same) (ap (λ (slot : Slot). slot.used) (get_or-set_same slots s no_slot no_slot (omega (arith, length-set slots s no_slot, same, r))))
+        go (inr n) = let other : k ≢ s = grind arith in ap (λ (slot : Slot). slot.used) (get_or-set_other slots s k no_slot no_slot other) ∙ h k (omega (arith, length-set slots s no_slot, r)) other

@@ -5,7 +5,7 @@ ghost use Rattle.std.specs.Prelude.{◌≡◌, ℕ, ◌<◌, List, [], ◌∷◌
 ghost use Rattle.seize_machine.specs.Machine.State.{State, opening, head_at, is_active};
 ghost use Rattle.seize_machine.specs.Machine.Next.{next};
 ghost use Rattle.seize_machine.specs.Machine.History.{Timed, Legal, IsReached};
-ghost use Rattle.seize_machine.specs.Machine.Laws.{is_quiet, HoldsOfAll, AtMostOnce, After, Quiet, Protection, Whereabouts, Gone, Holders, NoLaterHolders, UnderGuard, Tries};
+ghost use Rattle.seize_machine.specs.Machine.Laws.{is_quiet, HoldsOfAll, AtMostOnce, After, Quiet, Unused, Protection, Whereabouts, Gone, Holders, NoLaterHolders, UnderGuard, Tries};
 ghost use Rattle.seize_machine.specs.Machine.Event.{Event as Occurrence};
 ghost use Rattle.seize_machine.specs.Machine.Code.{Sized, event_of, HasDone, HasRun, HasRunLegally};
 ghost use Rattle.seize_machine.specs.declared.machine.event.Answer.{Answer as Told};
@@ -155,6 +155,7 @@ pub fn laws()
     ensures at_most_once { HoldsOfAll AtMostOnce }
     ensures after { HoldsOfAll After }
     ensures quiet { HoldsOfAll Quiet }
+    ensures unused { HoldsOfAll Unused }
     ensures protection { HoldsOfAll Protection }
     ensures whereabouts { HoldsOfAll Whereabouts }
     ensures gone { HoldsOfAll Gone }

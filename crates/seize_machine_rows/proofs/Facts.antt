@@ -11,7 +11,7 @@ use Rattle.seize_machine.specs.Machine.Frames.{changes_batch}
 use Rattle.seize_machine.specs.Machine.Kept.{KeptIn}
 use Rattle.seize_machine.specs.declared.machine.event.Answer.{Answer}
 use Rattle.seize_machine.specs.declared.machine.event.Answer.TheVariants.{Count, Handed}
-use Rattle.seize_machine.proofs.Facts.{Step, and_true, not_true, eq_true, is_true, step_of, next_of, no_event, one_event, one_more, joined, taken_apart, first_event, legal_unique, moment_of_event, legal_answer, opening_reached, reached_next, law_at_most_once, law_after, law_quiet, law_protection, law_whereabouts, law_gone, law_holders, law_no_later_holders, law_under_guard, law_tries, slot_frame, active_frame, head_frame, batch_frame, link_frame, used_frame, value_frame, slots_length, heads_length, batches_length, links_length, named_grows, loose_stays, out_active, marks_tidy, looks_tidy, tries_tidy, adds_above_zero, adds_tidy, counts_near, one_owner, zero_unheld, arrives_unheld, values_kept, gone_grows, named_placed, marking_full, note_within, held_full, empty_zero, batched_named, batched_once, linked_named, linked_not_loose, loose_named, gone_named, kept_from_link, kept_step, kept_not_handed, reached_by, reached_holds, unused_at_rest}
+use Rattle.seize_machine.proofs.Facts.{Step, and_true, not_true, eq_true, is_true, step_of, next_of, no_event, one_event, one_more, joined, taken_apart, first_event, legal_unique, moment_of_event, legal_answer, opening_reached, reached_next, law_at_most_once, law_after, law_quiet, law_protection, law_whereabouts, law_gone, law_holders, law_no_later_holders, law_under_guard, law_tries, slot_frame, active_frame, head_frame, batch_frame, link_frame, used_frame, value_frame, slots_length, heads_length, batches_length, links_length, named_grows, loose_stays, out_active, marks_tidy, looks_tidy, tries_tidy, adds_above_zero, adds_tidy, counts_near, one_owner, zero_unheld, arrives_unheld, values_kept, gone_grows, named_placed, marking_full, note_within, held_full, empty_zero, batched_named, batched_once, linked_named, linked_not_loose, loose_named, gone_named, kept_from_link, kept_step, kept_not_handed, reached_by, reached_holds, free_empty, no_rest, law_unused, rest_frame}
 use Rattle.seize_machine_rows.specs.Interface.{Unmoved, CallsTidy, ValuesStand, Obeys, Handing}
 
 stays_in : (s : ℕ) (event : Event) → not (is_swap_out s event) ≡ true → event ≢ SwapOut s
@@ -60,6 +60,7 @@ unmoved size st event d legal =
       values = λ b r. values_kept b size st event d step r;
       link = λ l n. link_frame l size st event d step n;
       numbers = λ n. used_frame size st event d step n;
+      rest = λ n. rest_frame size st event d step n;
       value = λ v n. value_frame v size st event d step n;
       named = λ v h. named_grows v size st event d step h;
       gone = λ v h. gone_grows v size st event d step h;
@@ -77,7 +78,8 @@ pub tidy : (st : State) → IsReached st → CallsTidy st
 tidy st r =
     record {
       heads = heads_length st r;
-      free = unused_at_rest st r;
+      free = free_empty st r;
+      rest = no_rest st r;
       out = λ s stays queue e. out_active st s stays queue r e;
       marks = λ s next note marks queue e. marks_tidy st s next note marks queue r e;
       full = λ s next note marks queue e. marking_full st s next note marks queue r e;
@@ -128,6 +130,7 @@ obeys slots links events answers now later t answer distinct legal e =
       no_later_holders = law_no_later_holders slots links (events ++ t ∷ []) _ later distinct whole;
       under_guard = law_under_guard slots links (events ++ t ∷ []) _ later distinct whole;
       tries = law_tries slots links (events ++ t ∷ []) _ later distinct whole;
+      unused = law_unused slots links (events ++ t ∷ []) _ later distinct whole;
     }
 
 pub answered : (size : ℕ) (st : State) (event : Event) (d : State × Answer) → next size st event ≡ Some d → is_legal d.1 ≡ true

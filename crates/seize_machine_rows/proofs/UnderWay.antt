@@ -1,5 +1,5 @@
 -- The machine's steps, used by a crate that builds on it: what a call under way does next, and how a value stands in a list.
-use Rattle.std.proofs.Common.{◌≡◌, ◌≢◌, ℕ, ◌<◌, ◌≤◌, pos, ◌+ℤ◌, true, false, if◌then◌else◌, nat_lt, ◌+◌, ◌==◌, List, [], ◌∷◌, ◌++◌, length, Some, None, ◌⊎◌, inl, inr, refl, sym, ◌∙◌, arith}
+use Rattle.std.proofs.Common.{◌≡◌, ◌≢◌, ℕ, ◌<◌, ◌≤◌, pos, ◌+ℤ◌, true, false, if◌then◌else◌, nat_lt, List, [], ◌∷◌, ◌++◌, length, Some, None, ◌⊎◌, inl, inr, refl, sym, ◌∙◌, arith}
 use Rattle.seize_machine.specs.Machine.State.{State, Active, Add, Append, Try, Out, slot_at, head_at, batch_at, link_at, is_active, is_idle, has, are_distinct}
 use Rattle.seize_machine.specs.Machine.Event.{Event, Begin, Put, Insert, AddCount, ExchangeLink, event_slot}
 use Rattle.seize_machine.specs.Machine.Next.{next, slot_set, can_link, is_none_or_fresh, new_link, is_stored}
@@ -9,7 +9,7 @@ use Rattle.seize_machine.specs.declared.machine.event.Answer.TheVariants.{Done, 
 use Rattle.seize_machine.specs.declared.machine.event.Exchange.{Exchange}
 use Rattle.seize_machine.specs.declared.machine.event.Job.TheVariants.{Leave}
 use Rattle.seize_machine.specs.declared.machine.event.Try.TheVariants.{Lost}
-use Rattle.seize_machine.proofs.Facts.{Step, Stands, Forced, beginning, go_on, counted, swapped, step_of, next_of, step_put, forced, is_true, some_is, if_some, lt_true, after_put, one, occ, has_some, has_none, distinct_once}
+use Rattle.seize_machine.proofs.Facts.{Step, Stands, Forced, beginning, go_on, counted, swapped, step_of, next_of, step_put, forced, is_true, some_is, if_some, lt_true, after_put, occ, has_some, has_none, distinct_once}
 use Rattle.seize_machine_rows.specs.Interface.{IsLegal, StandsAt, UnderWay}
 
 -- a step is a legal event

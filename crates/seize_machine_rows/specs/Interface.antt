@@ -1,7 +1,7 @@
 -- What the tests of the machine's facts say.
-use Rattle.std.specs.Prelude.{◌≡◌, ◌≢◌, ◌⊎◌, ◌↔◌, ℕ, ◌+◌, ◌<◌, ◌≤◌, pos, neg_ℤ, ◌+ℤ◌, ◌≤ℤ◌, Bool, true, false, List, [], ◌∷◌, length, Some, None, Option}
-use Rattle.std.specs.List.{Contains}
-use Rattle.seize_machine.specs.Machine.State.{State, Place, Active, Append, Mark, Look, Try, Add, Out, slot_at, is_idle, head_at, link_at, batch_at, is_active, has, are_distinct, opening}
+use Rattle.std.specs.Prelude.{◌≡◌, ◌≢◌, ◌⊎◌, ◌↔◌, ℕ, ◌+◌, ◌<◌, ◌≤◌, pos, neg_ℤ, ◌+ℤ◌, ◌≤ℤ◌, Bool, true, false, not, List, [], ◌∷◌, length, Some, Option}
+use Rattle.std.specs.List.{Contains, list_any}
+use Rattle.seize_machine.specs.Machine.State.{State, Place, Active, Append, Mark, Look, Try, Add, Out, no_slot, slot_at, is_idle, head_at, link_at, batch_at, is_active, has, are_distinct, opening}
 use Rattle.seize_machine.specs.Machine.Event.{Event, Begin, Put, Insert, AddCount, ExchangeLink, event_slot}
 use Rattle.seize_machine.specs.Machine.Next.{next, can_link, is_none_or_fresh, is_zero, new_link, is_stored}
 use Rattle.seize_machine.specs.declared.machine.event.Answer.{Answer}
@@ -10,8 +10,8 @@ use Rattle.seize_machine.specs.declared.machine.event.Exchange.{Exchange}
 use Rattle.seize_machine.specs.declared.machine.event.Try.TheVariants.{Lost}
 use Rattle.seize_machine.specs.declared.machine.event.Job.TheVariants.{Leave}
 use Rattle.seize_machine.specs.Machine.History.{Timed, history, Legal, is_link_event}
-use Rattle.seize_machine.specs.Machine.Laws.{AtMostOnce, After, Quiet, Protection, places, Whereabouts, Gone, Holders, NoLaterHolders, UnderGuard, Tries, detached_by, Lists, Walks, IsHeld}
-use Rattle.seize_machine.specs.Machine.Frames.{changes_slot, used, changes_used, changes_head_of, changes_link, changes_batch, changes_value, slots_added, batches_added, begins_retiring}
+use Rattle.seize_machine.specs.Machine.Laws.{AtMostOnce, After, Quiet, Protection, places, Whereabouts, Gone, Holders, NoLaterHolders, UnderGuard, Tries, Unused, detached_by, Lists, Walks, IsHeld}
+use Rattle.seize_machine.specs.Machine.Frames.{changes_slot, used, changes_numbers, changes_used, changes_head_of, changes_link, changes_batch, changes_value, slots_added, batches_added, begins_retiring}
 
 -- what an event leaves as it was
 pub record Unmoved (st : State) (event : Event) (later : State) : Type 0 where
@@ -23,6 +23,7 @@ pub record Unmoved (st : State) (event : Event) (later : State) : Type 0 where
       → ((batch_at later b).values ≡ (batch_at st b).values) ⊎ ((batch_at later b).values ≡ [])
   pub link : (l : ℕ) → changes_link l event ≡ false → link_at later l ≡ link_at st l
   pub numbers : changes_used event ≡ false → used later ≡ used st
+  pub rest : changes_numbers event ≡ false → later.rest ≡ st.rest
   pub value : (v : ℕ) → changes_value st v event ≡ false → (has v later.named ≡ has v st.named) × (has v later.loose ≡ has v st.loose)
   pub named : (v : ℕ) → has v st.named ≡ true → has v later.named ≡ true
   pub gone : (v : ℕ) → has v st.gone ≡ true → has v later.gone ≡ true
@@ -42,7 +43,8 @@ IsLegal size st event answer = (later : State) × (next size st event ≡ Some (
 -- what holds of calls and counts
 pub record CallsTidy (st : State) : Type 0 where
   pub heads : length st.heads ≡ length st.slots
-  pub free : (t : ℕ) → (slot_at st t).used ≡ false → ((slot_at st t).call ≡ None) × (is_active (head_at st t) ≡ false)
+  pub free : (t : ℕ) → (slot_at st t).used ≡ false → (slot_at st t ≡ no_slot) × (is_active (head_at st t) ≡ false)
+  pub rest : list_any (λ u. not u) (used st) ≡ false → st.rest ≡ []
   pub out : (s : ℕ) (stays : Bool) (queue : List ℕ) → StandsAt st s (Out stays) queue → is_active (head_at st s) ≡ true
   pub marks : (s next note : ℕ) (marks queue : List ℕ) → StandsAt st s (Mark next note marks) queue
       → (are_distinct marks ≡ true) × ((v : ℕ) → Contains marks v → v < next) × (length marks ≤ length (slot_at st s).batch)
@@ -100,6 +102,7 @@ pub record Obeys (st : State) (events : List Timed) : Type 0 where
   pub no_later_holders : NoLaterHolders st (history next st events)
   pub under_guard : UnderGuard st (history next st events)
   pub tries : Tries st (history next st events)
+  pub unused : Unused st (history next st events)
 
 -- after these events, from an opening, the event hands v
 pub record Handing (slots : ℕ) (links : List (Option ℕ)) (v : ℕ) (events : List Timed) (t : Timed) : Type 0 where

@@ -7,6 +7,14 @@ pub either : {A : Type 0} (P : A → Type 0) (b : Bool) (x y : A) → P x → P 
 either P true x y p q = p
 either P false x y p q = q
 
+pub if_yes : {A : Type 0} (b : Bool) (x y : A) → b ≡ true → (if b then x else y) ≡ x
+if_yes true x y e = refl
+if_yes false x y e = absurd (cc)
+
+pub if_no : {A : Type 0} (b : Bool) (x y : A) → b ≡ false → (if b then x else y) ≡ y
+if_no false x y e = refl
+if_no true x y e = absurd (cc)
+
 -- whether a number is below another
 pub in_or_past : (s n : ℕ) → (s < n) ⊎ (n ≤ s)
 in_or_past s zero = inr (omega arith)

@@ -21,6 +21,7 @@ pub mod Runs
 pub mod Lists
 pub mod Beginnings
 pub mod Jobs
+pub mod Gathers
 pub mod Guards
 pub mod Links
 pub mod Exchanges

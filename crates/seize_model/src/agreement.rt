@@ -28,6 +28,8 @@ pub fn runs_agree()
     ensures reuse { by_events 4 0 runs.reuse ≡ by_sets 4 0 runs.reuse }
     ensures left_behind { by_events 3 0 runs.left_behind ≡ by_sets 3 0 runs.left_behind }
     ensures inherited_batch { by_events 3 0 runs.inherited_batch ≡ by_sets 3 0 runs.inherited_batch }
+    ensures rest_gathered { by_events 4 0 runs.rest_gathered ≡ by_sets 4 0 runs.rest_gathered }
+    ensures rest_taken { by_events 2 0 runs.rest_taken ≡ by_sets 2 0 runs.rest_taken }
     ensures refusals { by_events 1 0 runs.refusals ≡ by_sets 1 0 runs.refusals }
     ensures links { by_events 1 1 runs.link_runs ≡ by_sets 1 1 runs.link_runs }
 {}

@@ -4,7 +4,7 @@
 ghost use Rattle.std.specs.Prelude.{◌≡◌, ℕ, List, ◌∷◌, []};
 ghost use Rattle.seize_model.specs.Waiting.State.{new, model_slot};
 ghost use Rattle.seize_model.specs.Waiting.Further.{Lighter, AfterwardsLaws, DrainLaws};
-ghost use Rattle.seize_model.specs.Waiting.Laws.{FlushLaw, RetireLaw, BoundLaw};
+ghost use Rattle.seize_model.specs.Waiting.Laws.{BoundLaw, FlushLaw, GivingLaw, LastEndLaw, RetireLaw, UnusedLaw};
 ghost use Rattle.seize_model.specs.Waiting.Lists.{AmpleLaw};
 ghost use Rattle.seize_model.specs.Waiting.Reached.{GoneLaw};
 ghost use Rattle.seize_model.specs.Waiting.Runs as runs;
@@ -30,6 +30,8 @@ pub fn calls_in_turn()
     ensures forgotten_guard { runs.tellings (new 4 0) runs.forgotten_guard ≡ runs.forgotten_guard_told }
     ensures left_behind { runs.tellings (new 3 0) runs.left_behind ≡ runs.left_behind_told }
     ensures inherited_batch { runs.tellings (new 3 0) runs.inherited_batch ≡ runs.inherited_batch_told }
+    ensures rest_gathered { runs.tellings (new 4 0) runs.rest_gathered ≡ runs.rest_gathered_told }
+    ensures rest_taken { runs.tellings (new 2 0) runs.rest_taken ≡ runs.rest_taken_told }
     ensures refusals { runs.tellings (new 1 0) runs.refusals ≡ runs.refusals_told }
     ensures links { runs.tellings (new 1 1) runs.link_runs ≡ runs.link_runs_told }
 {}
@@ -56,9 +58,22 @@ pub fn retired_batches<T, R>()
 
 /// What follows for every state: no value is gone in a flush, nor in a retirement by an active slot. And in every state that a list of
 /// calls leads to from a collector just made, each batch is below the bound: the greater of the size, at least 1, and the number of
-/// slots ever made.
+/// slots ever made. What slots that ended left is below that bound times the number of slots ever made.
 pub fn batches<T, R>()
     ensures flush { (puts : R → T → List T) (weight : T → ℕ) → FlushLaw puts weight }
     ensures retire { (puts : R → T → List T) (weight : T → ℕ) → RetireLaw puts weight }
     ensures bound { (puts : R → T → List T) (weight : T → ℕ) → BoundLaw puts weight }
+{}
+
+/// What becomes of all that was retired where no number is in use, in every state that calls lead to from a collector just made, where
+/// what a reclaimer puts weighs less than its value.
+///
+/// As the last number in use is given back, what the slots that ended left is gone, then the batch of the slot itself, and then what
+/// those values put, in turn. So where no number is in use, all that was retired is gone.
+///
+/// And in every state, a number that goes back at once leaves all as it is, and else gathers first, and less is left to gather then.
+pub fn last_ends<T, R>()
+    ensures last { (puts : R → T → List T) (weight : T → ℕ) → Lighter puts weight → LastEndLaw puts weight }
+    ensures unused { (puts : R → T → List T) (weight : T → ℕ) → Lighter puts weight → UnusedLaw puts weight }
+    ensures giving { (puts : R → T → List T) (weight : T → ℕ) → Lighter puts weight → GivingLaw puts weight }
 {}

@@ -1,6 +1,6 @@
 -- Where a pass is alone and no other slot is active, a slot that attempted its batch has none; and it has none when it has left, where
 -- nothing is put.
-use Rattle.std.proofs.Common.{◌≡◌, ℕ, suc, ◌<◌, ◌≤◌, ◌⊎◌, Bool, true, false, List, [], ◌∷◌, ◌++◌, length, None, Some, is_some, refl, sym, ap, subst, ◌∙◌, arith}
+use Rattle.std.proofs.Common.{◌≡◌, ℕ, suc, ◌<◌, ◌≤◌, ◌⊎◌, Bool, true, false, List, [], ◌∷◌, ◌++◌, length, None, Some, refl, sym, ap, subst, ◌∙◌, arith}
 use native.Mathlib.Decide.{ℕ_discrete}
 use mathlib.Core.Logic.{inl, inr}
 use Rattle.seize_machine.proofs.Facts.{Step, head_frame, step_of}
@@ -9,7 +9,7 @@ use Rattle.seize_machine.specs.declared.machine.event.Job.TheVariants.{Leave}
 use Rattle.seize_machine.specs.Machine.Frames.{changes_head_of}
 use Rattle.seize_machine.specs.Machine.History.{done_by, or_illegal}
 use Rattle.seize_machine.specs.Machine.Next.{Outcome, next}
-use Rattle.seize_machine.specs.Machine.State.{Slot as Record, State, head_at, is_active}
+use Rattle.seize_machine.specs.Machine.State.{Slot as Record, State, head_at, is_active, slot_at}
 use Rattle.seize_machine.specs.declared.machine.event.Answer.{Answer}
 use Rattle.seize_machine.specs.declared.machine.event.Answer.TheVariants.{Head as HeadRead, Illegal}
 use Rattle.seize_book.specs.Adding.{private}
@@ -22,22 +22,25 @@ use Rattle.seize_book.specs.Tokens.{IsSole}
 use Rattle.seize_book.specs.Values.{values_of}
 use Rattle.seize_book.specs.declared.book.pass.Pass.{Pass}
 use Rattle.seize_calls.proofs.Alone.{made_there}
-use Rattle.seize_calls.proofs.Current.{looked_active, looked_slot, shown}
+use Rattle.seize_calls.proofs.Current.{looked_active, shown}
 use Rattle.seize_calls.specs.Batches.{keys_in}
 use Rattle.seize_calls.specs.Calls.{Flushes, Leaves}
 use Rattle.seize_calls.specs.Aparts.{without_puts}
 use Rattle.seize_calls.specs.Handing.{AreTheirs, Had, Handings, values_put}
 use Rattle.seize_calls.specs.Marks.{actives, readings}
 use Rattle.seize_calls.specs.Settling.{CallState, Drains, Settles, Stays}
-use Rattle.seize_calls.specs.Slots.{IsActive, IsInactive, IsOfWords, IsPassFor, Prepares, SlotEnters, SlotFlushes, SlotLeaves, SlotLooks, seen_book, its_number}
+use Rattle.seize_calls.specs.Slots.{IsActive, IsInUse, IsInactive, IsOfWords, IsPassFor, Prepares, SlotEnters, SlotFlushes, SlotLeaves, SlotLooks, its_number}
+use Rattle.seize_calls.specs.declared.batch.Batch.{Batch}
 use Rattle.seize_calls.specs.declared.slot.Slot.{Slot}
 use Rattle.seize_calls.specs.Walking.{handed_in}
 use Rattle.seize_alone.proofs.Segments.{drained}
 use Rattle.seize_words.specs.declared.activation.Activation.{Activation}
 use Rattle.seize_words.specs.declared.words.Words.{Words}
-use Rattle.seize_parts.specs.Sweeps.{AreOff, IsLedBy, LeavesNothing}
+use Rattle.seize_parts.specs.Places.{IsUnmoved}
+use Rattle.seize_parts.specs.Sweeps.{AreOff, IsLedBy, KeepsActive, KeepsIdle}
 use Rattle.seize_parts.proofs.Placed.{still_for}
-use Rattle.seize_parts.proofs.Swept.{enters, flushes, leaves, led_as, led_made, led_prepared, led_then, looks, other, prepared_same, prepared_sole, still_sole}
+use Rattle.seize_parts.proofs.Stilled.{still_looked}
+use Rattle.seize_parts.proofs.Swept.{active_led, entered_off, enters, flushes, idle_call, idle_led, leaves, led_as, led_made, led_prepared, led_then, looks, other, prepared_same, prepared_sole, still_sole}
 
 -- Reading a head answers whether it is active, and changes none.
 
@@ -186,15 +189,6 @@ module _ {T : Type 0} (slot : Slot T) (pass : Pass) (slot' : Slot T) (pass' : Pa
       ∙ ap (λ (x : CallState). values_of x.batch) (drains_none l.behind l.ends.drained none_queued l.ends.drains.drains)
       ∙ ap values_of l.batch ∙ slot.together.batch_is.1 ∙ bare
 
--- A slot that looked at the list, and that has no batch as its key knows, leaves nothing behind.
-pub cleared_by : {T : Type 0} (slot slot' : Slot T) (pass pass' : Pass) → SlotLooks slot pass slot' pass' → seen_book slot ≡ pass.name → IsInactive slot → (slot_of slot.holder.key).batch ≡ [] → LeavesNothing pass' (its_number slot)
-cleared_by slot slot' pass pass' looks book off none =
-    let so = shown slot slot' pass pass' looks book in record {
-      call = ap (λ (z : Record). is_some z.call) so.0 ∙ ap is_some so.2;
-      off = so.1 ∙ looked_active _ _ _ _ looks.0.does ∙ off;
-      batch = ap (λ (z : Record). z.batch) so.0 ∙ ap (λ (z : Record). z.batch) (looked_slot _ _ _ _ looks.0.does) ∙ none;
-    }
-
 -- A slot enters, attempts its batch, leaves, and looks at the list.
 module _ {T : Type 0} (words : Words T) (s0 s2 s3 s4 s5 : Slot T) (p0 p1 p2 p3 p4 p5 : Pass) (sole : IsSole p0.id) (for : IsPassFor words p0) (prep : Prepares s0 p0 p1) (a : Activation) (entered : SlotEnters s0 p1 a s2 p2)
     (e3 : Had) (of3 : IsOfWords words s3) (retired : Bool) (flushed : SlotFlushes s2 p2 [] s3 p3 e3 retired) (had4 : Had) (of4 : IsOfWords words s4) (left : SlotLeaves s3 p3 [] s4 p4 (without_puts had4))
@@ -244,11 +238,24 @@ module _ {T : Type 0} (words : Words T) (s0 s2 s3 s4 s5 : Slot T) (p0 p1 p2 p3 p
   pub swept_led : IsLedBy s p0 p5
   swept_led = led_then s p0 p1 p5 (led_prepared s0 p0 p1 prep sole s) (led_then s p1 p2 p5 led2 (led_then s p2 p3 p5 led3 (led_then s p3 p4 p5 led4 (looks s4 p4 s5 p5 sole4 s looked))))
 
-  pub swept_left : IsActive s2 → AreOff p0 → IsInactive s4 → LeavesNothing p5 s
-  swept_left active off inactive = subst (LeavesNothing p5) num4 (cleared_by s4 s5 p4 p5 looked (of4.book ∙ for4.0) inactive (leave_bare s3 p3 s4 p4 had4 left batch3))
+  pub swept_active : IsInactive s4 → KeepsActive p0 p5
+  swept_active off4 = active_led s p0 p5 swept_led (off5 ∙ sym (ap (λ (st : State). is_active (head_at st s)) (sym (prepared_same s0 p0 p1 prep sole)) ∙ entered_off s0 p1 s2 p2 sole1 a entered))
+    where
+      off5 : is_active (head_at (state_seen p5) s) ≡ false
+      off5 = subst (λ (k : ℕ). is_active (head_at (state_seen p5) k) ≡ false) num4 ((shown s4 s5 p4 p5 looked (of4.book ∙ for4.0)).1 ∙ looked_active _ _ _ _ looked.0.does ∙ off4)
+
+  pub swept_idle : IsInUse s5 → KeepsIdle p0 p5
+  swept_idle used5 = idle_led s p0 p5 swept_led (subst (λ (k : ℕ). (slot_at (state_seen p5) k).call ≡ None) num4 (ap (λ (x : Record). x.call) (shown s4 s5 p4 p5 looked (of4.book ∙ for4.0)).0 ∙ idle_call (slot_of s5.holder.key) used5))
+
+  pub swept_spent : IsActive s2 → AreOff p0 → values_of (keys_in s5.holder.batch) ≡ []
+  swept_spent active off = ap (λ (b : Batch). values_of (keys_in b)) looked.1 ∙ s4.together.batch_is.1 ∙ leave_bare s3 p3 s4 p4 had4 left batch3
     where
       off2 : OthersOff (its_number s2) (state_seen p2)
       off2 t differs = led2.leads.active t (λ e. differs (e ∙ sym num2)) ∙ ap (λ (st : State). is_active (head_at st t)) (prepared_same s0 p0 p1 prep sole) ∙ off t
 
       batch3 : (slot_of s3.holder.key).batch ≡ []
       batch3 = flush_bare s2 p2 s3 p3 sole2 [] e3 off2 active retired flushed
+
+  -- a look with a pass that is alone
+  pub swept_still : IsUnmoved p4 p5
+  swept_still = still_looked s4 s5 looked

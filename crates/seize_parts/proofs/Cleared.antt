@@ -1,24 +1,28 @@
--- Where each slot leaves nothing, each value that was ever retired is reclaimed.
-use Rattle.std.proofs.Common.{◌≡◌, ℕ, zero, suc, ◌<◌, ◌≤◌, Bool, true, not, ◌&&◌, List, [], ◌∷◌, length, is_some, ◌⊎◌, inl, inr, ⊎_elim, refl, ap, subst, ◌∙◌, arith, false, get_or, map, sym}
+-- What is known of the values when all that nobody has was swept.
+--     past_end, below_or         lists of places
+--     quiet_at, quiet_by         where all is quiet, no slot has a call or is active, and the other way round
+--     used_before                where all that lay here or was kept lies here, a number that is in use was so before
+--     cleared, all_reclaimed     where no number is in use, each slot is as if it had never been made, and each retired value is reclaimed
+--     all_rest                   where all is quiet and nothing is left, each is reclaimed or stands in the batch of a slot in use
+use Rattle.std.proofs.Common.{◌≡◌, ◌⊎◌, ℕ, zero, suc, ◌<◌, ◌≤◌, Bool, true, false, not, ◌&&◌, List, [], ◌∷◌, length, Option, None, Some, is_some, get_or, map, inl, inr, ⊎_elim, refl, sym, ap, subst, ◌∙◌, arith}
 use Rattle.std.specs.Prelude.{slice_index_or}
 use Rattle.std.specs.List.{Contains, list_all}
-use Rattle.std.proofs.lemmas.List.{length-map}
-use Rattle.seize_machine.proofs.Facts.{and_true, heads_length, law_quiet}
-use Rattle.seize_machine.specs.Machine.Frames.{used}
-use Rattle.seize_machine.specs.Machine.History.{Reclaimed, Retired, answers_of}
-use Rattle.seize_machine.specs.Machine.Laws.{is_quiet}
-use Rattle.seize_machine.specs.Machine.State.{Head, Inactive, Slot as Record, State, are_distinct, head_at, is_active, linked_values, no_slot, slot_at}
+use Rattle.std.specs.Option.{is_none}
+use Rattle.std.proofs.lemmas.List.{get_or_past, length-map}
+use Rattle.seize_machine.proofs.Facts.{and_true, free_empty, law_quiet, law_unused, not_true}
+use Rattle.seize_machine.specs.Machine.History.{IsReached, Reclaimed, Retired, answers_of}
+use Rattle.seize_machine.specs.Machine.Laws.{is_quiet, is_unused}
+use Rattle.seize_machine.specs.Machine.State.{Head, Inactive, Progress, Slot as Record, State, are_distinct, head_at, is_active, linked_values, no_slot, slot_at}
 use Rattle.seize_book.specs.Book.{IsLegalList, after, moments}
 use Rattle.seize_book.specs.Entry.{events_of}
 use Rattle.seize_book.specs.Homesteads.{state_seen}
-use Rattle.seize_book.specs.Passes.{LooksOn}
-use Rattle.seize_book.specs.Tokens.{IsSole, start}
+use Rattle.seize_book.specs.Tokens.{start}
 use Rattle.seize_book.specs.declared.book.pass.Pass.{Pass}
 use Rattle.seize_book.proofs.Facts.{as_legal, reached_after}
 use Rattle.seize_parts.specs.Laws.{moments_seen}
-use Rattle.seize_parts.specs.Sweeps.{AreOff, AreOffBelow, LiesHere, IsOff, KeepsOn, LeavesNothing, StandsInUse, KeepsElse}
-use Rattle.seize_parts.proofs.Swept.{keeps_on, led_none}
-use Rattle.seize_parts.proofs.InUse.{AreAllHere}
+use Rattle.seize_parts.specs.Numbers.{flags_of}
+use Rattle.seize_parts.specs.Sweeps.{IsOff, StandsInUse}
+use Rattle.seize_parts.proofs.InUse.{used_place}
 
 -- Lists of which so much is known at each place.
 
@@ -31,10 +35,10 @@ all_by : {X : Type 0} (P : X → Bool) (xs : List X) (d : X) → ((t : ℕ) → 
 all_by P [] d each = refl
 all_by P (x ∷ xs) d each = (λ i. each 0 i && list_all P xs) ∙ all_by P xs d (λ t. each (suc t))
 
-pub here_in : (flags : List Bool) (t : ℕ) → AreAllHere flags → t < length flags → LiesHere flags t
-here_in [] t all below = absurd (omega (arith, below))
-here_in (flag ∷ flags) zero all below = all.0
-here_in (flag ∷ flags) (suc t) all below = here_in flags t all.1 (omega (arith, below))
+each_by : {X : Type 0} (P : X → Bool) (xs : List X) (d : X) → P d ≡ true → list_all P xs ≡ true → (t : ℕ) → P (slice_index_or xs t d) ≡ true
+each_by P [] d last all t = last
+each_by P (x ∷ xs) d last all zero = (and_true (P x) (list_all P xs) all).0
+each_by P (x ∷ xs) d last all (suc t) = each_by P xs d last (and_true (P x) (list_all P xs) all).1 t
 
 pub below_or : (t k : ℕ) → (t < k) ⊎ (k ≤ t)
 below_or zero zero = inr (omega arith)
@@ -42,137 +46,77 @@ below_or zero (suc k) = inl (omega arith)
 below_or (suc t) zero = inr (omega arith)
 below_or (suc t) (suc k) = ⊎_elim (λ less. inl (omega (arith, less))) (λ past. inr (omega (arith, past))) (below_or t k)
 
--- what is so below the end and from there on is so at each place
-pub each_of : (P : ℕ → Type 0) (k : ℕ) → ((t : ℕ) → t < k → P t) → ((t : ℕ) → k ≤ t → P t) → (t : ℕ) → P t
-each_of P k below past t = ⊎_elim (below t) (past t) (below_or t k)
+-- Where all is quiet.
 
-pub used_at : (slots : List Record) (t : ℕ) → t < length slots → (slice_index_or slots t no_slot).used ≡ get_or (map (λ slot. slot.used) slots) t true
-used_at [] t below = absurd (omega (arith, below))
-used_at (x ∷ slots) zero below = refl
-used_at (x ∷ slots) (suc t) below = used_at slots t (omega (arith, below))
+none_call : (o : Option Progress) → is_some o ≡ false → o ≡ None
+none_call None is = refl
+none_call (Some call) is = absurd (cc)
 
-pub not_false : (b : Bool) → ¬ (b ≡ false) → b ≡ true
-not_false true not = refl
-not_false false not = absurd (not refl)
-
-pub here_or : (flags : List Bool) (t : ℕ) → LiesHere flags t ⊎ (¬ (LiesHere flags t))
-here_or flags t = go (get_or flags t true) refl
-  where
-    go : (b : Bool) → get_or flags t true ≡ b → LiesHere flags t ⊎ (¬ (LiesHere flags t))
-    go false is = inl is
-    go true is = inr (λ here. let e : true ≡ false = sym is ∙ here in cc)
-
-pub here_long : (flags : List Bool) (t : ℕ) → LiesHere flags t → t < length flags
-here_long [] t here = absurd (cc)
-here_long (flag ∷ flags) zero here = omega arith
-here_long (flag ∷ flags) (suc t) here = let less = here_long flags t here in omega (arith, less)
-
-quiet_parts : (st : State) → is_quiet st ≡ true → (list_all (λ slot. not (is_some slot.call)) st.slots ≡ true) × (list_all (λ head. not (is_active head)) st.heads ≡ true)
-quiet_parts st quiet = and_true (list_all (λ slot. not (is_some slot.call)) st.slots) (list_all (λ head. not (is_active head)) st.heads) quiet
-
-each_by : {X : Type 0} (P : X → Bool) (xs : List X) (d : X) → P d ≡ true → list_all P xs ≡ true → (t : ℕ) → P (slice_index_or xs t d) ≡ true
-each_by P [] d last all t = last
-each_by P (x ∷ xs) d last all zero = (and_true (P x) (list_all P xs) all).0
-each_by P (x ∷ xs) d last all (suc t) = each_by P xs d last (and_true (P x) (list_all P xs) all).1 t
-
-not_true : (b : Bool) → not b ≡ true → b ≡ false
-not_true true h = absurd (cc)
-not_true false h = refl
-
--- where all is quiet, no slot has a call or is active
-pub quiet_at : (st : State) → is_quiet st ≡ true → (t : ℕ) → (is_some (slot_at st t).call ≡ false) × (is_active (head_at st t) ≡ false)
+pub quiet_at : (st : State) → is_quiet st ≡ true → (t : ℕ) → ((slot_at st t).call ≡ None) × (is_active (head_at st t) ≡ false)
 quiet_at st quiet t =
-    let parts = quiet_parts st quiet in (
-      not_true (is_some (slot_at st t).call) (each_by (λ (slot : Record). not (is_some slot.call)) st.slots no_slot refl parts.0 t),
+    let parts = and_true (list_all (λ slot. not (is_some slot.call)) st.slots) (list_all (λ head. not (is_active head)) st.heads) quiet in (
+      none_call (slot_at st t).call (not_true (is_some (slot_at st t).call) (each_by (λ (slot : Record). not (is_some slot.call)) st.slots no_slot refl parts.0 t)),
       not_true (is_active (head_at st t)) (each_by (λ (head : Head). not (is_active head)) st.heads Inactive refl parts.1 t),
     )
+
+pub quiet_by : (st : State) → ((t : ℕ) → (slot_at st t).call ≡ None) → ((t : ℕ) → is_active (head_at st t) ≡ false) → is_quiet st ≡ true
+quiet_by st none off = λ i.
+    all_by (λ (slot : Record). not (is_some slot.call)) st.slots no_slot (λ t. ap (λ (o : Option Progress). not (is_some o)) (none t)) i
+    && all_by (λ (head : Head). not (is_active head)) st.heads Inactive (λ t. ap not (off t)) i
+
+-- Numbers in use.
+
+pub used_before : {X Y : Type 0} (records records' : List Record) (slots slots' : List (Option X)) (kept kept' : List (Option Y)) → map (λ slot. slot.used) records ≡ flags_of slots → map (λ slot. slot.used) records' ≡ flags_of slots' → length slots' ≡ length slots
+    → ((i : ℕ) → (is_some (get_or slots i None) ≡ true) ⊎ (is_some (get_or kept i None) ≡ true) → (is_some (get_or slots' i None) ≡ true) ⊎ (is_some (get_or kept' i None) ≡ true)) → ((i : ℕ) → is_some (get_or kept' i None) ≡ false)
+    → (t : ℕ) → (slice_index_or records' t no_slot).used ≡ true → (slice_index_or records t no_slot).used ≡ true
+used_before {X} {Y} records records' slots slots' kept kept' was is long more none t used = ⊎_elim there beyond (below_or t (length slots'))
+  where
+    many : length records' ≡ length slots'
+    many = sym (length-map records' (λ slot. slot.used)) ∙ ap (λ (us : List Bool). length us) is ∙ length-map slots' is_none
+
+    beyond : length slots' ≤ t → (slice_index_or records t no_slot).used ≡ true
+    beyond past = absurd (let no : no_slot.used ≡ true = ap (λ (x : Record). x.used) (sym (past_end records' t no_slot (let same = many in omega (arith, same, past)))) ∙ used in cc)
+
+    both : (o : Option X) → is_none o ≡ true → is_some o ≡ true → ⊥
+    both None is some = cc
+    both (Some x) is some = cc
+
+    there : t < length slots' → (slice_index_or records t no_slot).used ≡ true
+    there less = used_place records slots t was (omega (arith, less, long)) ∙ go (get_or slots t None) refl
+      where
+        go : (o : Option X) → get_or slots t None ≡ o → is_none (get_or slots t None) ≡ true
+        go None same = ap is_none same
+        go (Some x) same =
+            ⊎_elim (λ here. absurd (both (get_or slots' t None) (sym (used_place records' slots' t is less) ∙ used) here)) (λ held. absurd (let no : true ≡ false = sym held ∙ none t in cc)) (more t (inl (ap is_some same)))
 
 -- A pass that has seen a legal list.
 module _ (pass : Pass) (legal : IsLegalList (start pass.name) pass.seen) (distinct : are_distinct (linked_values pass.name.links) ≡ true) where
   abbrev st : State
   st = state_seen pass
 
-  many_heads : length st.heads ≡ length st.slots
-  many_heads = heads_length st (reached_after pass.name pass.seen distinct legal)
+  reached : IsReached (state_seen pass)
+  reached = reached_after pass.name pass.seen distinct legal
 
-  many_slots : length (used st) ≡ length st.slots
-  many_slots = length-map st.slots (λ slot. slot.used)
+  pub cleared : ((s : ℕ) → (slot_at (state_seen pass) s).used ≡ false) → (s : ℕ) → (slot_at (state_seen pass) s ≡ no_slot) × IsOff pass s
+  cleared unused s = free_empty (state_seen pass) reached s (unused s)
 
-  -- beyond the last slot there is none
-  past_off : (t : ℕ) → length (used st) ≤ t → IsOff pass t
-  past_off t past = ap is_active (past_end st.heads t Inactive (let heads = many_heads in let slots = many_slots in omega (arith, past, heads, slots)))
+  pub all_reclaimed : ((s : ℕ) → (slot_at (state_seen pass) s).used ≡ false) → (v q : ℕ) → Retired (moments_seen pass) v q → (k : ℕ) × Reclaimed (moments_seen pass) v k
+  all_reclaimed unused v q retired =
+      let n = pass.name in law_unused n.slots n.links (events_of pass.seen) (answers_of (moments (start n) pass.seen)) (after (start n) pass.seen) distinct (as_legal (start n) pass.seen legal) none v q retired
+    where
+      none : is_unused (state_seen pass) ≡ true
+      none = all_by (λ (slot : Record). not slot.used && not (is_some slot.call)) (state_seen pass).slots no_slot (λ t. ap (λ (x : Record). not x.used && not (is_some x.call)) (cleared unused t).0)
 
-  pub past_nothing : (t : ℕ) → length (used st) ≤ t → LeavesNothing pass t
-  past_nothing t past =
-      let none = past_end st.slots t no_slot (let slots = many_slots in omega (arith, past, slots)) in
-      record { call = ap (λ (z : Record). is_some z.call) none; off = past_off t past; batch = ap (λ (z : Record). z.batch) none }
-
-  -- no slot is active where each that lies here is not
-  pub all_off : (flags : List Bool) → used st ≡ flags → (k : ℕ) → k ≡ length flags → (here : List Bool) → length here ≡ k → AreAllHere here → AreOffBelow k here pass → AreOff pass
-  all_off flags is k many here same all below =
-      each_of (IsOff pass) k (λ t less. below t less (here_in here t all (omega (arith, less, same)))) (λ t past. past_off t (let long = ap (λ (us : List Bool). length us) is in omega (arith, past, long, many)))
-
-  pub all_cleared : ((t : ℕ) → LeavesNothing pass t) → (v q : ℕ) → Retired (moments_seen pass) v q → (k : ℕ) × Reclaimed (moments_seen pass) v k
-  all_cleared left v q retired =
+  pub all_rest : is_quiet (state_seen pass) ≡ true → (state_seen pass).rest ≡ [] → (v q : ℕ) → Retired (moments_seen pass) v q → ((k : ℕ) × Reclaimed (moments_seen pass) v k) ⊎ StandsInUse (state_seen pass) v
+  all_rest quiet nothing v q retired =
       let n = pass.name in
-      ⊎_elim (λ back. back) (λ batched. absurd (let less : batched.1.0 < length {A = ℕ} [] = subst (λ (vs : List ℕ). batched.1.0 < length vs) (left batched.0).batch batched.1.1 in omega (arith, less)))
+      ⊎_elim (λ back. inl back)
+      (λ left. ⊎_elim (λ batched. stands batched.0 batched.1 (slot_at (state_seen pass) batched.0).used refl) (λ rested. absurd (none_in (state_seen pass).rest v nothing rested.0)) left)
       (law_quiet n.slots n.links (events_of pass.seen) (answers_of (moments (start n) pass.seen)) (after (start n) pass.seen) distinct (as_legal (start n) pass.seen legal) quiet v q retired)
     where
-      quiet : is_quiet st ≡ true
-      quiet = λ i.
-          all_by (λ slot. not (is_some slot.call)) st.slots no_slot (λ t. ap not (left t).call) i && all_by (λ head. not (is_active head)) st.heads Inactive (λ t. ap not (left t).off) i
+      none_in : (vs : List ℕ) (v : ℕ) → vs ≡ [] → Contains vs v → ⊥
+      none_in vs v none there = let less : there.0 < length {A = ℕ} [] = subst (λ (xs : List ℕ). there.0 < length xs) none there.1 in omega (arith, less)
 
-  -- where each slot leaves nothing, or rests with its number in use
-  abbrev pub RestsAt : ℕ → Type 0
-  RestsAt t = LeavesNothing pass t ⊎ ((is_some (slot_at st t).call ≡ false) × IsOff pass t × ((slot_at st t).used ≡ true))
-
-  no_call : (t : ℕ) → RestsAt t → is_some (slot_at st t).call ≡ false
-  no_call t (inl left) = left.call
-  no_call t (inr rests) = rests.0
-
-  not_active : (t : ℕ) → RestsAt t → IsOff pass t
-  not_active t (inl left) = left.off
-  not_active t (inr rests) = rests.1
-
-  pub quiet_rests : ((t : ℕ) → RestsAt t) → is_quiet st ≡ true
-  quiet_rests each = λ i.
-      all_by (λ slot. not (is_some slot.call)) st.slots no_slot (λ t. ap not (no_call t (each t))) i
-      && all_by (λ head. not (is_active head)) st.heads Inactive (λ t. ap not (not_active t (each t))) i
-
-  pub all_rest : ((t : ℕ) → RestsAt t) → (v q : ℕ) → Retired (moments_seen pass) v q → ((k : ℕ) × Reclaimed (moments_seen pass) v k) ⊎ StandsInUse st v
-  all_rest each v q retired =
-      let n = pass.name in
-      ⊎_elim (λ back. inl back) (λ batched. stands batched.0 batched.1 (each batched.0))
-      (law_quiet n.slots n.links (events_of pass.seen) (answers_of (moments (start n) pass.seen)) (after (start n) pass.seen) distinct (as_legal (start n) pass.seen legal) quiet v q retired)
-    where
-      quiet : is_quiet st ≡ true
-      quiet = quiet_rests each
-
-      stands : (s : ℕ) → Contains (slot_at st s).batch v → RestsAt s → ((k : ℕ) × Reclaimed (moments_seen pass) v k) ⊎ StandsInUse st v
-      stands s there (inl left) = absurd (let less : there.0 < length {A = ℕ} [] = subst (λ (vs : List ℕ). there.0 < length vs) left.batch there.1 in omega (arith, less))
-      stands s there (inr rests) = inr (s, rests.2, there)
-
-  -- of a slot that does not lie in its place the number is in use
-  pub used_else : (flags : List Bool) (t : ℕ) → used st ≡ flags → t < length flags → ¬ (LiesHere flags t) → (slot_at st t).used ≡ true
-  used_else flags t is below not =
-      used_at st.slots t (let long = ap (λ (us : List Bool). length us) is in let many = many_slots in omega (arith, below, long, many)) ∙ ap (λ (us : List Bool). get_or us t true) is ∙ not_false (get_or flags t true) not
-
--- A look with a pass that is alone.
-pub keeps_looked : (pass pass' : Pass) → LooksOn pass pass' → IsSole pass.id → KeepsOn pass pass'
-keeps_looked pass pass' looks sole = keeps_on 0 pass pass' (led_none 0 pass pass' looks.same (looks.alone sole))
-
-pub looked_state : (pass pass' : Pass) → LooksOn pass pass' → IsSole pass.id → state_seen pass' ≡ state_seen pass
-looked_state pass pass' looks sole j = after (start (looks.same.0 j)) (looks.alone sole j)
-
-pub looked_left : (pass pass' : Pass) → LooksOn pass pass' → IsSole pass.id → (t : ℕ) → LeavesNothing pass t → LeavesNothing pass' t
-looked_left pass pass' looks sole t was = let same = looked_state pass pass' looks sole in record {
-  call = ap (λ (st : State). is_some (slot_at st t).call) same ∙ was.call;
-  off = ap (λ (st : State). is_active (head_at st t)) same ∙ was.off;
-  batch = ap (λ (st : State). (slot_at st t).batch) same ∙ was.batch;
-}
-
-pub looked_off : (pass pass' : Pass) → LooksOn pass pass' → IsSole pass.id → (t : ℕ) → IsOff pass t → IsOff pass' t
-looked_off pass pass' looks sole t was = ap (λ (st : State). is_active (head_at st t)) (looked_state pass pass' looks sole) ∙ was
-
-pub else_looked : (flags : List Bool) (pass pass' : Pass) → LooksOn pass pass' → IsSole pass.id → KeepsElse flags pass pass'
-else_looked flags pass pass' looks sole t not = let same = looked_state pass pass' looks sole in (ap (λ (st : State). slot_at st t) same, ap (λ (st : State). is_active (head_at st t)) same)
+      stands : (s : ℕ) → Contains (slot_at (state_seen pass) s).batch v → (b : Bool) → (slot_at (state_seen pass) s).used ≡ b → ((k : ℕ) × Reclaimed (moments_seen pass) v k) ⊎ StandsInUse (state_seen pass) v
+      stands s there true is = inr (s, is, there)
+      stands s there false is = absurd (none_in (slot_at (state_seen pass) s).batch v (ap (λ (x : Record). x.batch) (free_empty (state_seen pass) reached s is).0) there)

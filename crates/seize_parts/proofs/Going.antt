@@ -1,10 +1,9 @@
 -- Parts of a reclaim of all, one after another: what the reclaimer had, what the watch was told, what waits, and what the hands hold.
-use Rattle.std.proofs.Common.{◌≡◌, ℕ, zero, suc, ◌+◌, List, [], ◌∷◌, ◌++◌, append_assoc, refl, sym, ap, subst, ◌∙◌, arith}
+use Rattle.std.proofs.Common.{◌≡◌, ℕ, zero, suc, ◌+◌, ◌-◌, ◌≤◌, ◌⊎◌, inl, inr, ⊎_elim, List, [], ◌∷◌, ◌++◌, append_assoc, refl, sym, ap, subst, ◌∙◌, arith}
 use Rattle.std.specs.List.{fold, range_with_len}
 use Rattle.std.proofs.lemmas.List.{append-nil}
 use base.Stored.{Gv}
 use Rattle.seize_machine.specs.Machine.State.{are_distinct, linked_values}
-use Rattle.seize_model.specs.declared.kind.Kind.{Kind}
 use Rattle.seize_model.specs.Waiting.Attempt.{StateAndGone, with_gone}
 use Rattle.seize_model.specs.Waiting.State.{ModelState}
 use Rattle.seize_book.specs.Kept.{kepts_of}
@@ -80,6 +79,22 @@ module _ {T Seen : Type 0} (code : T → Gv) (puts : ℕ → T → List T) (told
     holds = λ st names kinds may holds. subst (λ (o : StateAndGone T ℕ). HoldsThen code o one.had q) (same st may) (one.holds st names kinds (less st may) holds);
   }
 
+  -- so it is said of the states that hands hold
+  pub goes_held : {May May' : ModelState T ℕ → Type 0} {does does' : ModelState T ℕ → StateAndGone T ℕ} {p q : Pass} {seen seen' : Seen} {queue queue' : Further}
+      → ((st : ModelState T ℕ) (names : List (ℕ × T)) (kinds : List (ℕ × ℕ)) → May' st → Holds code st names kinds p.name p.seen → May st × (does st ≡ does' st)) → Goes code puts told May does p q seen seen' queue queue' → Goes code puts told May' does' p q seen seen' queue queue'
+  goes_held {q = q} leads one = record {
+    same = one.same;
+    had = one.had;
+    put = one.put;
+    tells = one.tells;
+    waits = one.waits;
+    holds = λ st names kinds may holds. let so = leads st names kinds may holds in subst (λ (o : StateAndGone T ℕ). HoldsThen code o one.had q) so.1 (one.holds st names kinds so.0 holds);
+  }
+
+  -- the list is the same
+  pub goes_since : {May : ModelState T ℕ → Type 0} {does : ModelState T ℕ → StateAndGone T ℕ} {p q r : Pass} {seen seen' : Seen} {queue queue' : Further} → q ≡ p → Goes code puts told May does q r seen seen' queue queue' → Goes code puts told May does p r seen seen' queue queue'
+  goes_since {May} {does} {p} {q} {r} {seen} {seen'} {queue} {queue'} same one = subst (λ (x : Pass). Goes code puts told May does x r seen seen' queue queue') same one
+
   -- one part, and then another
   pub goes_then : {May May' : ModelState T ℕ → Type 0} {does does' : ModelState T ℕ → StateAndGone T ℕ} {p q r : Pass} {seen seen' seen'' : Seen} {queue queue' queue'' : Further}
       → (one : Goes code puts told May does p q seen seen' queue queue') → Goes code puts told May' does' q r seen' seen'' queue' queue''
@@ -130,12 +145,12 @@ module _ {T R : Type 0} where
       ap (λ (x : StateAndGone T R). with_gone o.1 x) (parts_append o.0 ss ts)
       ∙ with_gone_twice o.1 (parts_in_turn o.0 ss).1 (parts_in_turn (parts_in_turn o.0 ss).0 ts)
 
-  pub batches_append : (kind : Kind) (st : ModelState T R) (ss ts : List ℕ) → batches_in_turn kind st (ss ++ ts) ≡ with_gone (batches_in_turn kind st ss).1 (batches_in_turn kind (batches_in_turn kind st ss).0 ts)
-  batches_append kind st [] ts = refl
-  batches_append kind st (s ∷ ss) ts =
-      let o = batch_in_turn kind st s in
-      ap (λ (x : StateAndGone T R). with_gone o.1 x) (batches_append kind o.0 ss ts)
-      ∙ with_gone_twice o.1 (batches_in_turn kind o.0 ss).1 (batches_in_turn kind (batches_in_turn kind o.0 ss).0 ts)
+  pub batches_append : (st : ModelState T R) (ss ts : List ℕ) → batches_in_turn st (ss ++ ts) ≡ with_gone (batches_in_turn st ss).1 (batches_in_turn (batches_in_turn st ss).0 ts)
+  batches_append st [] ts = refl
+  batches_append st (s ∷ ss) ts =
+      let o = batch_in_turn st s in
+      ap (λ (x : StateAndGone T R). with_gone o.1 x) (batches_append o.0 ss ts)
+      ∙ with_gone_twice o.1 (batches_in_turn o.0 ss).1 (batches_in_turn (batches_in_turn o.0 ss).0 ts)
 
   with_none : (o : StateAndGone T R) → with_gone o.1 (o.0, []) ≡ o
   with_none o = λ j. (o.0, append-nil o.1 j)
@@ -150,11 +165,29 @@ module _ {T R : Type 0} where
       zero_more : (n : ℕ) → 0 + n ≡ n
       zero_more n = omega arith
 
-  pub batch_more : (kind : Kind) (st : ModelState T R) (n : ℕ) → batches_in_turn kind st (range_with_len 0 (n + 1)) ≡ with_gone (batches_in_turn kind st (range_with_len 0 n)).1 (batch_in_turn kind (batches_in_turn kind st (range_with_len 0 n)).0 n)
-  batch_more kind st n =
-      let first = batches_in_turn kind st (range_with_len 0 n) in let last = batch_in_turn kind first.0 n in
-      ap (batches_in_turn kind st) (range_append n 0 1 ∙ ap (λ (k : ℕ). range_with_len 0 n ++ range_with_len k 1) (zero_more n)) ∙ batches_append kind st (range_with_len 0 n) (n ∷ [])
+  pub batch_more : (st : ModelState T R) (n : ℕ) → batches_in_turn st (range_with_len 0 (n + 1)) ≡ with_gone (batches_in_turn st (range_with_len 0 n)).1 (batch_in_turn (batches_in_turn st (range_with_len 0 n)).0 n)
+  batch_more st n =
+      let first = batches_in_turn st (range_with_len 0 n) in let last = batch_in_turn first.0 n in
+      ap (batches_in_turn st) (range_append n 0 1 ∙ ap (λ (k : ℕ). range_with_len 0 n ++ range_with_len k 1) (zero_more n)) ∙ batches_append st (range_with_len 0 n) (n ∷ [])
       ∙ ap (λ (o : StateAndGone T R). with_gone first.1 o) (with_none last)
     where
       zero_more : (n : ℕ) → 0 + n ≡ n
       zero_more n = omega arith
+
+-- Two ranges from the first number on do the same where beyond each nothing is done.
+pub range_both : {T R : Type 0} (turns : ModelState T R → List ℕ → StateAndGone T R) → ((st : ModelState T R) (ss ts : List ℕ) → turns st (ss ++ ts) ≡ with_gone (turns st ss).1 (turns (turns st ss).0 ts)) → (st : ModelState T R) (a b : ℕ)
+    → ((k : ℕ) → turns (turns st (range_with_len 0 a)).0 (range_with_len a k) ≡ ((turns st (range_with_len 0 a)).0, [])) → ((k : ℕ) → turns (turns st (range_with_len 0 b)).0 (range_with_len b k) ≡ ((turns st (range_with_len 0 b)).0, []))
+    → turns st (range_with_len 0 a) ≡ turns st (range_with_len 0 b)
+range_both {T} {R} turns append st a b beyond_a beyond_b = ⊎_elim (λ less. sym (longer a b less beyond_a)) (λ more. longer b a more beyond_b) (past_or a b)
+  where
+    past_or : (a b : ℕ) → (a ≤ b) ⊎ (b ≤ a)
+    past_or zero b = inl (omega arith)
+    past_or (suc a) zero = inr (omega arith)
+    past_or (suc a) (suc b) = ⊎_elim (λ less. inl (omega (arith, less))) (λ more. inr (omega (arith, more))) (past_or a b)
+
+    longer : (a b : ℕ) → a ≤ b → ((k : ℕ) → turns (turns st (range_with_len 0 a)).0 (range_with_len a k) ≡ ((turns st (range_with_len 0 a)).0, [])) → turns st (range_with_len 0 b) ≡ turns st (range_with_len 0 a)
+    longer a b less beyond =
+        let first = turns st (range_with_len 0 a) in let whole : a + (b - a) ≡ b = omega (arith, less) in let from : 0 + a ≡ a = omega arith in
+        ap (λ (k : ℕ). turns st (range_with_len 0 k)) (sym whole) ∙ ap (turns st) (range_append a 0 (b - a)) ∙ append st (range_with_len 0 a) (range_with_len (0 + a) (b - a))
+        ∙ ap (λ (k : ℕ). with_gone first.1 (turns first.0 (range_with_len k (b - a)))) from
+        ∙ ap (λ (o : StateAndGone T R). with_gone first.1 o) (beyond (b - a)) ∙ (λ j. (first.0, append-nil first.1 j))

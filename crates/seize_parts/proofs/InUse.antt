@@ -1,24 +1,35 @@
--- Which numbers are in use while the slots that nobody has take theirs again, from the first on, and give them back, from the last on.
-use Rattle.std.proofs.Common.{◌≡◌, ℕ, zero, suc, ◌+◌, ◌<◌, ◌⊎◌, inl, inr, ⊎_elim, Bool, true, false, List, [], ◌∷◌, length, map, Option, Some, None, is_some, get_or, slice_set, refl, sym, ap, subst, ◌∙◌, arith}
-use Rattle.std.specs.List.{list_all}
+-- Which numbers are in use, by the slots that lie here; and that the numbers behind the lock stay as they are to be, whatever is kept.
+--     set_or, set_twice, here_below, places_set, some_set     lists of places
+--     all_here, here_all, unused_all, all_unused     where each slot lies here no number is in use, and the other way round
+--     kept_at, kept_set            a slot that is kept
+--     slots_as, slots_kept, slots_looked     the numbers stay, where the key knows the same;  where other slots are kept;  after a look
+--     kept_same                    so they do, where one slot is kept in the place of another, and the places stay
+use Rattle.std.proofs.Common.{◌≡◌, ℕ, zero, suc, ◌<◌, ◌⊎◌, inl, inr, ⊎_elim, Bool, true, false, List, [], ◌∷◌, length, map, Option, Some, None, is_some, get_or, slice_set, refl, sym, ap, subst, ◌∙◌, arith}
+use Rattle.std.specs.List.{count_by, list_all}
 use Rattle.std.specs.Option.{is_none}
 use Rattle.std.specs.Prelude.{slice_index_or}
+use Rattle.std.proofs.Math.ListN.{get_or-map}
 use Rattle.std.proofs.lemmas.List.{length-map, length-set}
+use mathlib.Core.List.{IsPrefix}
 use Rattle.seize_machine.specs.Machine.State.{Slot as Record, no_slot}
-use Rattle.seize_table.specs.Place.{all_numbers}
-use Rattle.seize_book.specs.Others.{MayTakeNumber, first_false, use_flags}
+use Rattle.seize_book.specs.Entry.{Entry}
+use Rattle.seize_book.specs.Others.{FollowsNumbers, numbers_saw, rest_of, use_flags}
 use Rattle.seize_book.specs.Tokens.{Name}
 use Rattle.seize_book.specs.declared.book.numbers_key.NumbersKey.{NumbersKey}
 use Rattle.seize_book.specs.declared.book.pass.Pass.{Pass}
+use Rattle.seize_book.proofs.Kept.{all_told_later}
+use Rattle.seize_words.specs.Joined.{words_book}
 use Rattle.seize_words.specs.Named.{numbers_book}
 use Rattle.seize_words.specs.Totals.{made_of}
-use Rattle.seize_calls.specs.Slots.{SetsUse, its_key, its_number}
+use Rattle.seize_words.specs.declared.words.Words.{Words}
+use Rattle.seize_calls.specs.Batches.{keys_in}
+use Rattle.seize_calls.specs.Slots.{IsInactive, IsOfList, IsRestIn, IsSlotOf, its_number}
+use Rattle.seize_calls.specs.declared.batch.Batch.{Batch}
 use Rattle.seize_calls.specs.declared.slot.Slot.{Slot}
-use Rattle.seize_calls.proofs.Slots.{may_take_slot}
-use Rattle.seize_parts.specs.Numbers.{AreTakenTo, IsTakenAt, flags_of, flags_to}
-use Rattle.seize_parts.specs.Sweeps.{LiesHere, KeepsPlaces}
+use Rattle.seize_parts.specs.Numbers.{AreEachAt, AreSlots, IsFreeAt, IsKeptAt, NoneBelow, flags_of}
+use Rattle.seize_parts.specs.Sweeps.{KeepsHere, KeepsPlaces}
 use Rattle.seize_parts.specs.declared.numbers.Numbers.{Numbers}
-use Rattle.seize_parts.proofs.Numbered.{few, made_flags, some_same}
+use Rattle.seize_parts.proofs.Numbered.{made_flags, own_followed}
 
 -- none of these is in use
 abbrev pub AreAllHere : List Bool → Type 0
@@ -27,66 +38,6 @@ AreAllHere (flag ∷ flags) = (flag ≡ false) × AreAllHere flags
 
 -- Lists of places.
 module _ {X : Type 0} where
-  pub flags_length : (n : ℕ) (slots : List (Option X)) → length (flags_to n slots) ≡ length slots
-  flags_length zero slots = length-map slots is_none
-  flags_length (suc n) [] = refl
-  flags_length (suc n) (o ∷ slots) = ap suc (flags_length n slots)
-
-  pub taken_one : (slots : List (Option X)) (n : ℕ) (o : Option X) → n < length slots → slice_set (flags_to n slots) n true ≡ flags_to (suc n) (slice_set slots n o)
-  taken_one [] n o below = absurd (omega (arith, below))
-  taken_one (x ∷ slots) zero o below = refl
-  taken_one (x ∷ slots) (suc n) o below = ap (λ (flags : List Bool). true ∷ flags) (taken_one slots n o (omega (arith, below)))
-
-  pub given_one : (slots : List (Option X)) (n : ℕ) (o : Option X) → n < length slots → slice_set (flags_to (suc n) slots) n (is_none o) ≡ flags_to n (slice_set slots n o)
-  given_one [] n o below = absurd (omega (arith, below))
-  given_one (x ∷ slots) zero o below = refl
-  given_one (x ∷ slots) (suc n) o below = ap (λ (flags : List Bool). true ∷ flags) (given_one slots n o (omega (arith, below)))
-
-  -- where none lies, the number is in use all the while
-  pub taken_none : (slots : List (Option X)) (n : ℕ) → n < length slots → get_or slots n None ≡ None → flags_to (suc n) (slice_set slots n None) ≡ flags_to n slots
-  taken_none [] n below none = absurd (omega (arith, below))
-  taken_none (x ∷ slots) zero below none = ap (λ (b : Bool). b ∷ flags_of slots) (sym (ap is_none none))
-  taken_none (x ∷ slots) (suc n) below none = ap (λ (flags : List Bool). true ∷ flags) (taken_none slots n (omega (arith, below)) none)
-
-  pub given_none : (slots : List (Option X)) (n : ℕ) → n < length slots → get_or slots n None ≡ None → flags_to n (slice_set slots n None) ≡ flags_to (suc n) slots
-  given_none [] n below none = absurd (omega (arith, below))
-  given_none (x ∷ slots) zero below none = refl
-  given_none (x ∷ slots) (suc n) below none = ap (λ (flags : List Bool). true ∷ flags) (given_none slots n (omega (arith, below)) none)
-
-  -- what lies in a place whose number was taken says nothing of that
-  pub taken_same : (slots : List (Option X)) (m n : ℕ) (o : Option X) → n < m → flags_to m (slice_set slots n o) ≡ flags_to m slots
-  taken_same slots zero n o below = absurd (omega (arith, below))
-  taken_same [] (suc m) n o below = refl
-  taken_same (x ∷ slots) (suc m) zero o below = refl
-  taken_same (x ∷ slots) (suc m) (suc n) o below = ap (λ (flags : List Bool). true ∷ flags) (taken_same slots m n o (omega (arith, below)))
-
-  -- the least that is not in use is that of the next slot that lies here
-  pub first_here : (slots : List (Option X)) (n : ℕ) (x : X) → get_or slots n None ≡ Some x → first_false (flags_to n slots) ≡ n
-  first_here [] zero x is = absurd (cc)
-  first_here [] (suc n) x is = absurd (cc)
-  first_here (o ∷ slots) zero x is = go o is
-    where
-      go : (o : Option X) → o ≡ Some x → first_false (is_none o ∷ flags_of slots) ≡ 0
-      go None is = absurd (cc)
-      go (Some y) is = refl
-  first_here (o ∷ slots) (suc n) x is = ap (λ (k : ℕ). 1 + k) (first_here slots n x is) ∙ one_more n
-    where
-      one_more : (n : ℕ) → 1 + n ≡ suc n
-      one_more n = omega arith
-
-  -- where none was laid, none lies
-  pub none_flag : (slots : List (Option X)) (n : ℕ) (o : Option X) → o ≡ None → get_or (flags_of (slice_set slots n o)) n true ≡ true
-  none_flag [] zero o is = refl
-  none_flag [] (suc n) o is = refl
-  none_flag (x ∷ slots) zero o is = ap is_none is
-  none_flag (x ∷ slots) (suc n) o is = none_flag slots n o is
-
-  -- where one was laid, it lies
-  pub some_flag : (slots : List (Option X)) (n : ℕ) (a o : Option X) → is_none o ≡ false → n < length slots → LiesHere (flags_of (slice_set (slice_set slots n a) n o)) n
-  some_flag [] n a o is below = absurd (omega (arith, below))
-  some_flag (x ∷ slots) zero a o is below = is
-  some_flag (x ∷ slots) (suc n) a o is below = some_flag slots n a o is (omega (arith, below))
-
   -- what lies in which place is as it was
   pub places_set : (slots : List (Option X)) (n : ℕ) (o : Option X) → is_none o ≡ is_none (get_or slots n None) → n < length slots → flags_of (slice_set slots n o) ≡ flags_of slots
   places_set [] n o same below = refl
@@ -102,6 +53,20 @@ module _ {X : Type 0} where
   set_or (y ∷ slots) (suc n) zero o x is = inr ((λ e. absurd (omega (arith, e))), is)
   set_or (y ∷ slots) (suc n) (suc i) o x is =
       ⊎_elim (λ here. inl (ap suc here.0, here.1)) (λ other. inr ((λ e. other.0 (omega (arith, e))), other.1)) (set_or slots n i o x is)
+
+  -- where one was laid, those that lie there lie there still
+  pub some_set : (slots : List (Option X)) (n i : ℕ) (o : Option X) → is_some o ≡ true → is_some (get_or slots i None) ≡ true → is_some (get_or (slice_set slots n o) i None) ≡ true
+  some_set [] n i o some is = is
+  some_set (y ∷ slots) zero zero o some is = some
+  some_set (y ∷ slots) zero (suc i) o some is = is
+  some_set (y ∷ slots) (suc n) zero o some is = is
+  some_set (y ∷ slots) (suc n) (suc i) o some is = some_set slots n i o some is
+
+  -- where none lay, none lies still
+  pub none_again : (slots : List (Option X)) (n : ℕ) (o : Option X) → o ≡ None → get_or slots n None ≡ None → slice_set slots n o ≡ slots
+  none_again [] n o none is = refl
+  none_again (x ∷ slots) zero o none is = ap (λ (y : Option X). y ∷ slots) (none ∙ sym is)
+  none_again (x ∷ slots) (suc n) o none is = ap (λ (ys : List (Option X)). x ∷ ys) (none_again slots n o none is)
 
   pub here_below : (slots : List (Option X)) (i : ℕ) (x : X) → get_or slots i None ≡ Some x → i < length slots
   here_below [] zero x is = absurd (cc)
@@ -129,95 +94,107 @@ pub all_unused : (slots : List Record) → ((s : ℕ) → (slice_index_or slots 
 all_unused [] unused = tt
 all_unused (x ∷ slots) unused = (unused 0, all_unused slots (λ s. unused (suc s)))
 
-module _ {T : Type 0} (n : ℕ) (numbers : Numbers T) (are : AreTakenTo n numbers) where
-  abbrev items : List (Option (Slot T))
-  items = numbers.slots.items
+pub used_at : (slots : List Record) (t : ℕ) → t < length slots → (slice_index_or slots t no_slot).used ≡ get_or (map (λ slot. slot.used) slots) t true
+used_at [] t below = absurd (omega (arith, below))
+used_at (x ∷ slots) zero below = refl
+used_at (x ∷ slots) (suc t) below = used_at slots t (omega (arith, below))
 
-  -- how many numbers there are
-  pub many_known : length (use_flags numbers.key) ≡ length items
-  many_known = ap (λ (us : List Bool). length us) are.flags ∙ flags_length n items
-
-  -- the next slot may take its number
-  pub may_take_next : (slot : Slot T) → get_or items n None ≡ Some slot → MayTakeNumber numbers.key (its_key slot)
-  may_take_next slot is =
-      let its = (are.slots n slot is).number in let below = here_below items n slot is in let long = many_known in
-      may_take_slot numbers.key slot (its ∙ sym (first_here items n slot is) ∙ ap first_false (sym are.flags)) (omega (arith, its, below, long)) (subst (λ (k : ℕ). k < all_numbers) (sym its) (few numbers n (omega (arith, below))))
-
-  -- one number is set, and what lies in its place
-  module _ (m : ℕ) (numbers' : Numbers T) (key_book : numbers_book numbers'.key ≡ numbers_book numbers.key) (made : made_of numbers'.key ≡ made_of numbers.key) (at : ℕ) (o : Option (Slot T)) (flags : use_flags numbers'.key ≡ flags_to m (slice_set items at o))
-      (put : (slot : Slot T) → o ≡ Some slot → IsTakenAt numbers.book.name m at slot) (others : (i : ℕ) → ¬ (i ≡ at) → (slot : Slot T) → get_or items i None ≡ Some slot → IsTakenAt numbers.book.name n i slot → IsTakenAt numbers.book.name m i slot)
-      (slots : numbers'.slots.items ≡ slice_set items at o) (next : numbers'.next ≡ numbers.next) (book : numbers'.book ≡ numbers.book) where
-    stands : (i : ℕ) (slot : Slot T) → get_or (slice_set items at o) i None ≡ Some slot → IsTakenAt numbers.book.name m i slot
-    stands i slot is =
-        ⊎_elim (λ here. subst (λ (k : ℕ). IsTakenAt numbers.book.name m k slot) (sym here.0) (put slot here.1)) (λ other. others i other.0 slot other.1 (are.slots i slot other.1))
-        (set_or items at i o slot is)
-
-    pub taken_set : AreTakenTo m numbers'
-    taken_set = record {
-      book = key_book ∙ are.book ∙ ap (λ seen. seen.name) (sym book);
-      flags = flags ∙ ap (flags_to m) (sym slots);
-      slots = λ i slot is. subst (λ name. IsTakenAt name m i slot) (ap (λ seen. seen.name) (sym book)) (stands i slot (ap (λ items. get_or items i None) (sym slots) ∙ is));
-      next = are.next;
-      is_there = next ∙ are.is_there;
-      comes = (are.comes.0 ∙ sym made, are.comes.1 ∙ sym key_book);
-    }
-
-  -- A slot lies in this place, and one lies there afterwards; or there is none.
-  module _ (m : ℕ) (numbers' : Numbers T) (at : ℕ) (below : at < length items) (others : (i : ℕ) → ¬ (i ≡ at) → (slot : Slot T) → IsTakenAt numbers.book.name n i slot → IsTakenAt numbers.book.name m i slot)
-      (next : numbers'.next ≡ numbers.next) (book : numbers'.book ≡ numbers.book) where
-    pub some_there : (slot slot' : Slot T) → get_or items at None ≡ Some slot → numbers_book numbers'.key ≡ numbers_book numbers.key → made_of numbers'.key ≡ made_of numbers.key
-        → use_flags numbers'.key ≡ flags_to m (slice_set items at (Some slot')) → IsTakenAt numbers.book.name m at slot' → numbers'.slots.items ≡ slice_set items at (Some slot') → AreTakenTo m numbers' × KeepsPlaces numbers numbers'
-    some_there slot slot' is key_book made flags its slots = (
-      taken_set m numbers' key_book made at (Some slot') flags (λ s same. subst (IsTakenAt numbers.book.name m at) (some_same slot' s same) its) (λ i differs s _. others i differs s) slots next book,
-      (book, ap flags_of slots ∙ places_set items at (Some slot') (sym (ap is_none is)) below),
-    )
-
-    pub none_there : (o : Option (Slot T)) → o ≡ None → get_or items at None ≡ None → numbers'.key ≡ numbers.key → flags_to m (slice_set items at None) ≡ flags_to n items → numbers'.slots.items ≡ slice_set items at o → AreTakenTo m numbers' × KeepsPlaces numbers numbers'
-    none_there o none is key flags slots =
-        let as_none : numbers'.slots.items ≡ slice_set items at None = slots ∙ ap (slice_set items at) none in (
-          taken_set m numbers' (ap numbers_book key) (ap made_of key) at None (ap use_flags key ∙ are.flags ∙ sym flags) (λ s same. absurd (cc)) (λ i differs s _. others i differs s) as_none next book,
-          (book, ap flags_of as_none ∙ places_set items at None (sym (ap is_none is)) below),
-        )
-
--- how many were made is as before when one is set
-pub made_sets : {T : Type 0} (key : NumbersKey) (pass' : Pass) (key' : NumbersKey) (slot : Slot T) (used : Bool) → SetsUse key pass' key' slot used → made_of key' ≡ made_of key
-made_sets key pass' key' slot used sets =
-    made_flags key' ∙ ap (λ (us : List Bool). length us) sets.1 ∙ length-set (use_flags key) (its_number slot) used ∙ sym (made_flags key)
-
--- another place stands as it did, where one number more is taken, or one went back
-pub other_taken : {T : Type 0} (name : Name) (n i : ℕ) (slot : Slot T) → ¬ (i ≡ n) → IsTakenAt name n i slot → IsTakenAt name (n + 1) i slot
-other_taken name n i slot differs at = record { its = at.its; number = at.number; inactive = at.inactive; used = λ less. at.used (omega (arith, less, differs)); free = λ least. at.free (omega (arith, least)) }
-
-pub other_given : {T : Type 0} (name : Name) (n i : ℕ) (slot : Slot T) → ¬ (i ≡ n) → IsTakenAt name (n + 1) i slot → IsTakenAt name n i slot
-other_given name n i slot differs at = record { its = at.its; number = at.number; inactive = at.inactive; used = λ less. at.used (omega (arith, less)); free = λ least. at.free (omega (arith, least, differs)) }
+-- and by what lies in its place
+pub used_place : {X : Type 0} (records : List Record) (slots : List (Option X)) (t : ℕ) → map (λ slot. slot.used) records ≡ flags_of slots → t < length slots → (slice_index_or records t no_slot).used ≡ is_none (get_or slots t None)
+used_place records slots t flags below =
+    let long = sym (length-map records (λ slot. slot.used)) ∙ ap (λ (us : List Bool). length us) flags ∙ length-map slots is_none in
+    used_at records t (omega (arith, below, long)) ∙ ap (λ (us : List Bool). get_or us t true) flags ∙ get_or-map is_none slots t None
 
 pub set_twice : {X : Type 0} (xs : List X) (n : ℕ) (a b : X) → slice_set (slice_set xs n a) n b ≡ slice_set xs n b
 set_twice [] n a b = refl
 set_twice (x ∷ xs) zero a b = refl
 set_twice (x ∷ xs) (suc n) a b = ap (λ ys. x ∷ ys) (set_twice xs n a b)
 
--- what is said of a place where none lies
-pub none_here : {A : Type 0} {X : Type 0} (slots : List (Option X)) (n : ℕ) (o : Option X) → o ≡ None → LiesHere (flags_of (slice_set slots n o)) n → A
-none_here slots n o is here = absurd (let e : true ≡ false = sym (none_flag slots n o is) ∙ here in cc)
+pub flags_long : {X : Type 0} (slots slots' : List (Option X)) → flags_of slots' ≡ flags_of slots → length slots' ≡ length slots
+flags_long slots slots' same = sym (length-map slots' is_none) ∙ ap (λ (us : List Bool). length us) same ∙ length-map slots is_none
 
-pub plus_one : (n : ℕ) → suc n ≡ n + 1
-plus_one n = omega arith
+-- what lies in a place, by its flag
+pub flag_same : {X : Type 0} (slots slots' : List (Option X)) (n : ℕ) → flags_of slots' ≡ flags_of slots → is_none (get_or slots' n None) ≡ is_none (get_or slots n None)
+flag_same slots slots' n same = sym (get_or-map is_none slots' n None) ∙ ap (λ (us : List Bool). get_or us n true) same ∙ get_or-map is_none slots n None
 
-pub taken_as : {T : Type 0} (numbers : Numbers T) (k m : ℕ) → k ≡ m → AreTakenTo m numbers → AreTakenTo k numbers
-taken_as numbers k m same are = subst (λ (n : ℕ). AreTakenTo n numbers) (sym same) are
+pub places_then : {T : Type 0} (a b c : Numbers T) → KeepsPlaces a b → KeepsPlaces b c → KeepsPlaces a c
+places_then a b c one two = (two.0 ∙ one.0, two.1 ∙ one.1, two.2 ∙ one.2, two.3 ∙ one.3)
 
--- the key knows the same, and the same lies here
-pub taken_still : {T : Type 0} (n : ℕ) (numbers numbers' : Numbers T) → AreTakenTo n numbers → numbers_book numbers'.key ≡ numbers_book numbers.key → use_flags numbers'.key ≡ use_flags numbers.key → numbers'.slots ≡ numbers.slots → numbers'.next ≡ numbers.next
-    → numbers'.book ≡ numbers.book → AreTakenTo n numbers'
-taken_still n numbers numbers' are key_book flags slots next book =
-    let made : made_of numbers'.key ≡ made_of numbers.key = made_flags numbers'.key ∙ ap (λ (us : List Bool). length us) flags ∙ sym (made_flags numbers.key) in record {
-      book = key_book ∙ are.book ∙ ap (λ seen. seen.name) (sym book);
-      flags = flags ∙ are.flags ∙ ap (λ slots. flags_to n slots.items) (sym slots);
-      slots = λ i slot is. subst (λ name. IsTakenAt name n i slot) (ap (λ seen. seen.name) (sym book)) (are.slots i slot (ap (λ slots. get_or slots.items i None) (sym slots) ∙ is));
-      next = are.next;
-      is_there = next ∙ are.is_there;
-      comes = (are.comes.0 ∙ sym made, are.comes.1 ∙ sym key_book);
-    }
+pub none_below_same : {X : Type 0} (slots slots' : List (Option X)) (n : ℕ) → flags_of slots' ≡ flags_of slots → NoneBelow n slots → NoneBelow n slots'
+none_below_same {X} slots slots' n same none i less = go (get_or slots' i None) (get_or slots i None) (flag_same slots slots' i same) (none i less)
+  where
+    go : (a b : Option X) → is_none a ≡ is_none b → is_some b ≡ false → is_some a ≡ false
+    go None b same none = refl
+    go (Some x) None same none = absurd (cc)
+    go (Some x) (Some y) same none = absurd (cc)
 
-pub places_length : {T : Type 0} (numbers numbers' : Numbers T) → KeepsPlaces numbers numbers' → length numbers'.slots.items ≡ length numbers.slots.items
-places_length numbers numbers' keeps = sym (length-map numbers'.slots.items is_none) ∙ ap (λ (us : List Bool). length us) keeps.1 ∙ length-map numbers.slots.items is_none
+-- where they lie in the same places, they lie there still
+pub places_here : {T : Type 0} (numbers numbers' : Numbers T) → KeepsPlaces numbers numbers' → KeepsHere numbers numbers'
+places_here {T} numbers numbers' keeps = (
+  keeps.0,
+  flags_long numbers.slots.items numbers'.slots.items keeps.1,
+  λ i. ⊎_elim (λ lies. inl (some_still numbers.slots.items numbers'.slots.items i keeps.1 lies)) (λ held. inr (some_still numbers.kept.items numbers'.kept.items i keeps.2 held)),
+)
+  where
+    some_still : (slots slots' : List (Option (Slot T))) (i : ℕ) → flags_of slots' ≡ flags_of slots → is_some (get_or slots i None) ≡ true → is_some (get_or slots' i None) ≡ true
+    some_still slots slots' i same some = go (get_or slots' i None) (get_or slots i None) (flag_same slots slots' i same) some
+      where
+        go : (a b : Option (Slot T)) → is_none a ≡ is_none b → is_some b ≡ true → is_some a ≡ true
+        go (Some x) b same some = refl
+        go None None same some = absurd (cc)
+        go None (Some y) same some = absurd (cc)
+
+-- A slot that is kept.
+
+pub kept_at : {T : Type 0} (words : Words T) (name : Name) (n : ℕ) (slot : Slot T) → name ≡ words_book words → IsSlotOf words slot → IsInactive slot → its_number slot ≡ n → IsKeptAt name n slot
+kept_at words name n slot same of off number = record { its = subst (λ (m : Name). IsOfList m slot) (sym same) of.0; number = number; inactive = off; used = of.1 }
+
+module _ {T : Type 0} (numbers : Numbers T) (are : AreSlots numbers) where
+  pub kept_set : (n : ℕ) (o : Option (Slot T)) → ((slot : Slot T) → o ≡ Some slot → IsKeptAt numbers.book.name n slot) → AreEachAt (IsKeptAt numbers.book.name) (slice_set numbers.kept.items n o)
+  kept_set n o its i slot is =
+      ⊎_elim (λ here. subst (λ (k : ℕ). IsKeptAt numbers.book.name k slot) (sym here.0) (its slot here.1)) (λ other. are.kept i slot other.1) (set_or numbers.kept.items n i o slot is)
+
+  -- The key knows the same, and the same lies here.
+  pub slots_as : (numbers' : Numbers T) → numbers_book numbers'.key ≡ numbers_book numbers.key → use_flags numbers'.key ≡ use_flags numbers.key → IsRestIn numbers.book.name numbers'.key numbers'.rest → numbers'.slots ≡ numbers.slots → numbers'.free ≡ numbers.free
+      → AreEachAt (IsKeptAt numbers.book.name) numbers'.kept.items → length numbers'.kept.items ≡ length numbers.kept.items → numbers'.next ≡ numbers.next → numbers'.book ≡ numbers.book → AreSlots numbers'
+  slots_as numbers' key_book flags rest slots free kept many next book =
+      let made : made_of numbers'.key ≡ made_of numbers.key = made_flags numbers'.key ∙ ap (λ (us : List Bool). length us) flags ∙ sym (made_flags numbers.key) in record {
+        book = key_book ∙ are.book ∙ ap (λ seen. seen.name) (sym book);
+        flags = flags ∙ are.flags ∙ ap (λ l. flags_of l.items) (sym slots);
+        slots = subst (λ (t : Name × List (Option (Slot T))). AreEachAt (IsFreeAt t.0) t.1) (λ i. ((sym book i).name, (sym slots i).items)) are.slots;
+        free = free ∙ are.free ∙ ap (λ l. count_by is_some l.items) (sym slots);
+        kept = subst (λ (m : Name). AreEachAt (IsKeptAt m) numbers'.kept.items) (λ i. (sym book i).name) kept;
+        many = many ∙ are.many ∙ ap (λ l. length l.items) (sym slots);
+        rest = subst (λ (m : Name). IsRestIn m numbers'.key numbers'.rest) (λ i. (sym book i).name) rest;
+        next = are.next;
+        is_there = next ∙ are.is_there;
+        comes = (are.comes.0 ∙ sym made, are.comes.1 ∙ sym key_book);
+      }
+
+  -- other slots are kept
+  pub slots_kept : (numbers' : Numbers T) → numbers'.key ≡ numbers.key → numbers'.rest ≡ numbers.rest → numbers'.slots ≡ numbers.slots → numbers'.free ≡ numbers.free → AreEachAt (IsKeptAt numbers.book.name) numbers'.kept.items
+      → length numbers'.kept.items ≡ length numbers.kept.items → numbers'.next ≡ numbers.next → numbers'.book ≡ numbers.book → AreSlots numbers'
+  slots_kept numbers' key rest slots free kept many next book =
+      slots_as numbers' (ap numbers_book key) (ap use_flags key) (subst (λ (t : NumbersKey × Batch). IsRestIn numbers.book.name t.0 t.1) (λ i. (sym key i, sym rest i)) are.rest) slots free kept many next book
+
+  -- and after a look with the key
+  pub slots_looked : (numbers' : Numbers T) (pass' : Pass) → FollowsNumbers numbers.key pass' numbers'.key → IsPrefix (numbers_saw numbers.key) pass'.seen → use_flags numbers'.key ≡ use_flags numbers.key → rest_of numbers'.key ≡ rest_of numbers.key
+      → numbers'.rest ≡ numbers.rest → numbers'.slots ≡ numbers.slots → numbers'.free ≡ numbers.free → numbers'.kept ≡ numbers.kept → numbers'.next ≡ numbers.next → numbers'.book ≡ numbers.book → AreSlots numbers'
+  slots_looked numbers' pass' follows saw flags rest same slots free kept next book =
+      let own : numbers_saw numbers'.key ≡ pass'.seen = own_followed numbers.key pass' numbers'.key follows in
+      slots_as numbers' follows.0 flags
+      (subst (λ b. IsRestIn numbers.book.name numbers'.key b) (sym same) (record {
+        book = are.rest.book;
+        values = are.rest.values ∙ sym rest;
+        told = all_told_later (numbers_saw numbers.key) (numbers_saw numbers'.key) (keys_in numbers.rest).keys.held (subst (λ (log : List Entry). IsPrefix (numbers_saw numbers.key) log) (sym own) saw) are.rest.told;
+      }))
+      slots free (subst (λ l. AreEachAt (IsKeptAt numbers.book.name) l.items) (sym kept) are.kept) (ap (λ l. length l.items) kept) next book
+
+  -- what is kept in one place is another slot, or none as before
+  pub kept_same : (n : ℕ) (o : Option (Slot T)) → is_none o ≡ is_none (get_or numbers.kept.items n None) → ((slot : Slot T) → o ≡ Some slot → IsKeptAt numbers.book.name n slot) → n < length numbers.kept.items
+      → (numbers' : Numbers T) → numbers'.kept.items ≡ slice_set numbers.kept.items n o → numbers'.key ≡ numbers.key → numbers'.rest ≡ numbers.rest → numbers'.slots ≡ numbers.slots → numbers'.free ≡ numbers.free → numbers'.next ≡ numbers.next
+      → numbers'.book ≡ numbers.book → numbers'.least ≡ numbers.least → AreSlots numbers' × KeepsPlaces numbers numbers'
+  kept_same n o same its below numbers' kept key rest slots free next book least = (
+    slots_kept numbers' key rest slots free (subst (AreEachAt (IsKeptAt numbers.book.name)) (sym kept) (kept_set n o its)) (ap (λ (l : List (Option (Slot T))). length l) kept ∙ length-set numbers.kept.items n o) next book,
+    (book, ap (λ l. flags_of l.items) slots, ap flags_of kept ∙ places_set numbers.kept.items n o same below, least),
+  )

@@ -3,9 +3,10 @@ use Rattle.std.proofs.Common.{◌≡◌, ℕ, map, List, [], ◌∷◌, ◌++◌
 use Rattle.std.proofs.lemmas.List.{map-append}
 use base.Growing.{prefix_trans}
 use Rattle.seize_machine.specs.Machine.State.{State}
-use Rattle.seize_machine.specs.Machine.Event.{Enter, Event, Give, Take}
+use Rattle.seize_machine.specs.Machine.Event.{Begin, Enter, Event, Give, Take}
 use Rattle.seize_machine.specs.declared.machine.event.Answer.{Answer}
 use Rattle.seize_machine.specs.declared.machine.event.Answer.TheVariants.{Done}
+use Rattle.seize_machine.specs.declared.machine.event.Job.{Job}
 use Rattle.seize_machine.proofs.Facts.{Step, step_of}
 use Rattle.seize_book.specs.Adding.{private}
 use Rattle.seize_book.specs.Book.{IsLegalList, after}
@@ -138,10 +139,15 @@ take_done size s st _ (Step.took_new _ _ _) = refl
 take_done size s st _ (Step.took_old _ _ _ _) = refl
 
 give_done : (size s : ℕ) (st : State) (o : State × Answer) → Step size st (Give s) o → o.1 ≡ Done
-give_done size s st _ (Step.gave _ _ _) = refl
+give_done size s st _ (Step.gave _ _ _ _) = refl
 
 enter_done : (size s : ℕ) (st : State) (o : State × Answer) → Step size st (Enter s) o → o.1 ≡ Done
 enter_done size s st _ (Step.entered _ _ _) = refl
+
+begin_done : (size s : ℕ) (job : Job) (st : State) (o : State × Answer) → Step size st (Begin s job) o → o.1 ≡ Done
+begin_done size s job st _ (Step.gathered _ _ _ _ _) = refl
+begin_done size s job st _ (Step.begun_retire _ _ _ _) = refl
+begin_done size s job st _ (Step.begun_other _ _ _ _ _ _) = refl
 
 -- a number is taken or goes back, and a slot enters
 pub one_taken : (pass pass' : Pass) (s : ℕ) → IsSamePass pass pass' → AddsEntry pass.name pass.id pass.seen pass'.seen (Made (private pass (Take s))) → MakesOne pass pass' (Take s) Done
@@ -159,6 +165,9 @@ key_takes key pass key' pass' s notes = one_taken pass pass' s notes.0 notes.2.0
 
 pub key_gives : (key : SlotKey) (pass : Pass) (key' : SlotKey) (pass' : Pass) (s : ℕ) → AddsEvent key pass key' pass' (Give s) → MakesOne pass pass' (Give s) Done
 key_gives key pass key' pass' s notes = one_given pass pass' s notes.0 notes.2.0
+
+pub key_begins : (key : SlotKey) (pass : Pass) (key' : SlotKey) (pass' : Pass) (s : ℕ) (job : Job) → AddsEvent key pass key' pass' (Begin s job) → MakesOne pass pass' (Begin s job) Done
+key_begins key pass key' pass' s job notes = one_answered pass pass' (private pass (Begin s job)) Done notes.0 notes.2.0 (begin_done pass.size s job)
 
 pub key_enters : (key : SlotKey) (pass : Pass) (key' : SlotKey) (pass' : Pass) (life s : ℕ) → AddsDeed key pass key' pass' (beginning pass life (Enter s)) → MakesOne pass pass' (Enter s) Done
 key_enters key pass key' pass' life s notes = one_entered pass pass' life s notes.0 notes.2.0
@@ -188,9 +197,9 @@ module _ {T : Type 0} (slot : Slot T) (pass : Pass) (slot' : Slot T) (pass' : Pa
   pub slot_gives : SlotGives slot pass slot' pass' → MakesOne pass pass' (Give (its_number slot)) Done
   slot_gives gives =
       makes_ready (λ p. AddsEvent slot.holder.key p slot'.holder.key pass' (Give (its_number slot))) ((Give (its_number slot), Done) ∷ [])
-      (λ ready does. key_gives slot.holder.key ready slot'.holder.key pass' (its_number slot) does) gives.0
+      (λ ready does. key_gives slot.holder.key ready slot'.holder.key pass' (its_number slot) does) gives
 
   pub slot_takes : SlotTakes slot pass slot' pass' → MakesOne pass pass' (Take (its_number slot)) Done
   slot_takes takes =
       makes_ready (λ p. AddsEvent slot.holder.key p slot'.holder.key pass' (Take (its_number slot))) ((Take (its_number slot), Done) ∷ [])
-      (λ ready does. key_takes slot.holder.key ready slot'.holder.key pass' (its_number slot) does) takes.0
+      (λ ready does. key_takes slot.holder.key ready slot'.holder.key pass' (its_number slot) does) takes

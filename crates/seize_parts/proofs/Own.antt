@@ -12,7 +12,6 @@ use Rattle.seize_machine.specs.Machine.Next.{next}
 use Rattle.seize_machine.specs.Machine.State.{State}
 use Rattle.seize_machine.specs.declared.machine.event.Answer.{Answer}
 use Rattle.seize_machine.specs.declared.machine.event.Answer.TheVariants.{Count, Done, Handed, Head, Illegal, Link}
-use Rattle.seize_machine.specs.declared.machine.event.Job.{Job}
 use Rattle.seize_book.specs.Book.{IsLegalList, acts, after, by_slot, mine, with_answers}
 use Rattle.seize_book.specs.Entry.{Deed, Entry, Made, Used, maker, timed_deed}
 use Rattle.seize_book.specs.Homesteads.{state_seen}
@@ -107,13 +106,13 @@ same_event s p d now log events only later made all = go (d.pass == p) refl (cha
     go false differs true of = absurd (false≢true (sym differs ∙ equal d.pass p (only of)))
     go false differs false of = ap by_number of ∙ later events (sym (ap by_maker differs) ∙ made) all
 
-same_made : (s p : ℕ) (st : State) (log : List Entry) (events : List (Event × Answer)) → OnlyBy s p log → map as_made (events_in (mine st p log)) ≡ events → AllOf s events → made_by s st log ≡ events
-same_made s p st [] events only made all = made
-same_made s p st (Used u ∷ log) events only made all =
-    ap (map as_made) (used_out (acts s (Used u)) (Used u, Done) (by_slot st s log) refl)
-    ∙ same_made s p st log events only.1 (ap (map as_made) (sym (used_out (maker (Used u) == p) (Used u, Done) (mine st p log) refl)) ∙ made) all
-same_made s p st (Made d ∷ log) events only made all =
-    let now = done_by next st (timed_deed d) in same_event s p d now log events only.0 (λ more is of. same_made s p now.0 log more only.1 is of) made all
+same_made : (s p : ℕ) (base : State) (log : List Entry) (events : List (Event × Answer)) → OnlyBy s p log → map as_made (events_in (mine base p log)) ≡ events → AllOf s events → made_by s base log ≡ events
+same_made s p base [] events only made all = made
+same_made s p base (Used u ∷ log) events only made all =
+    ap (map as_made) (used_out (acts s (Used u)) (Used u, Done) (by_slot base s log) refl)
+    ∙ same_made s p base log events only.1 (ap (map as_made) (sym (used_out (maker (Used u) == p) (Used u, Done) (mine base p log) refl)) ∙ made) all
+same_made s p base (Made d ∷ log) events only made all =
+    let now = done_by next base (timed_deed d) in same_event s p d now log events only.0 (λ more is of. same_made s p now.0 log more only.1 is of) made all
 
 -- So it is in a whole call.
 
@@ -147,9 +146,9 @@ of_steps IsPut n (step ∷ steps) are = (of_step IsPut n step.0 step.1 are.0, of
 abbrev pub MadeAll : ℕ → Pass → Pass → Type 0
 MadeAll s pass pass' = (events : List (Event × Answer)) → made_with pass' ≡ made_with pass ++ events → AllOf s events → Undivided s pass pass' events
 
-pub undivided_call : {s : ℕ} {pass pass' : Pass} → MadeAll s pass pass' → (IsPut : ℕ → List ℕ → Type 0) (job : Job) (steps : List (Event × Answer)) → AreStepsOf IsPut s steps → made_with pass' ≡ made_with pass ++ whole_call s job steps
-    → Undivided s pass pass' (whole_call s job steps)
-undivided_call {s} may IsPut job steps are made = may (whole_call s job steps) made (equal s s refl, of_steps IsPut s steps are)
+pub undivided_call : {s : ℕ} {pass pass' : Pass} → MadeAll s pass pass' → (IsPut : ℕ → List ℕ → Type 0) (first : Event) → changes_slot s first ≡ true → (steps : List (Event × Answer)) → AreStepsOf IsPut s steps
+    → made_with pass' ≡ made_with pass ++ whole_call s first steps → Undivided s pass pass' (whole_call s first steps)
+undivided_call {s} may IsPut first its steps are made = may (whole_call s first steps) made (its, of_steps IsPut s steps are)
 
 pub own_undivided : (key key' : SlotKey) (pass pass' : Pass) → IsSamePass pass pass' → IsLegalList (start pass.name) pass.seen → IsLegalList (start pass'.name) pass'.seen → IsPrefix (own_list key) pass.seen → IsPrefix pass.seen pass'.seen
     → own_list key' ≡ pass'.seen → (key'.keys.name ≡ key.keys.name) × (slot_number key' ≡ slot_number key) → AddsOwn key pass key' → MadeAll (slot_number key) pass pass'

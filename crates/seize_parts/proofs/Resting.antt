@@ -16,7 +16,7 @@ use Rattle.seize_book.specs.Saying.{AllSay}
 use Rattle.seize_book.specs.Tokens.{IsSole, Name, start}
 use Rattle.seize_book.specs.declared.book.pass.Pass.{Pass}
 use Rattle.seize_book.proofs.Facts.{reached_after, same_twice}
-use Rattle.seize_machine.proofs.Facts.{unused_at_rest}
+use Rattle.seize_machine.proofs.Facts.{free_empty}
 use Rattle.seize_machine.specs.Machine.History.{IsReached}
 use Rattle.seize_alone.specs.Begins.{Begun, IsUsedAs}
 use Rattle.seize_alone.proofs.Begins.{begins_held}
@@ -24,17 +24,11 @@ use Rattle.seize_parts.specs.Laws.{HaveContents}
 use Rattle.seize_parts.specs.Numbers.{flags_of}
 use Rattle.seize_parts.specs.Placing.{IsLeftAt, use_in}
 use Rattle.seize_parts.specs.Resting.{AreLeft, ComesToRest, LiesSomewhere}
-use Rattle.seize_parts.specs.Sweeps.{LiesHere}
 use Rattle.seize_parts.specs.declared.alone.place.Place.{Place}
 use Rattle.seize_parts.specs.declared.numbers.resting.Found.{Found}
-use Rattle.seize_parts.proofs.Cleared.{below_or, here_long, looked_state, past_end, used_at}
-use Rattle.seize_parts.proofs.InUse.{set_or}
-
-here_some : {X : Type 0} (items : List (Option X)) (s : ℕ) → is_some (get_or items s None) ≡ true → LiesHere (flags_of items) s
-here_some [] s is = absurd (cc)
-here_some (None ∷ items) zero is = absurd (cc)
-here_some (Some x ∷ items) zero is = refl
-here_some (o ∷ items) (suc s) is = here_some items s is
+use Rattle.seize_parts.proofs.Cleared.{below_or, past_end}
+use Rattle.seize_parts.proofs.InUse.{set_or, used_place}
+use Rattle.seize_parts.proofs.Swept.{looked_pass}
 
 pub all_lie : {X Y : Type 0} (items : List (Option X)) (places : List (Option Y)) → list_all is_some items ≡ true → (s : ℕ) → s < length items → LiesSomewhere items places s
 all_lie items places all s less = inl (go items all s less)
@@ -59,12 +53,14 @@ module _ (p r : Pass) (looks : LooksOn p r) where
 
     -- a slot whose number is not in use is free, also one that was never made
     free_as : (s : ℕ) → (slot_at (state_seen r) s).used ≡ false → IsUsedAs (state_seen r) s (Free, 0)
-    free_as s unused = let rests = unused_at_rest (state_seen r) reached s unused in record { used = unused; idle = rests.0; active = rests.1; free = λ _. refl; owned = λ _. omega arith }
+    free_as s unused = let empty = free_empty (state_seen r) reached s unused in record { used = unused; idle = ap (λ (x : Record). x.call) empty.0; active = empty.1; free = λ _. refl; owned = λ _. omega arith }
 
-    free_here : (s : ℕ) → LiesHere (flags_of items) s → IsUsedAs (state_seen r) s (Free, 0)
-    free_here s here =
-        let less = here_long (flags_of items) s here in let many = length-map items is_none in let same = rested_many in
-        free_as s (used_at (state_seen r).slots s (omega (arith, less, many, same)) ∙ ap (λ (us : List Bool). get_or us s true) flags ∙ here)
+    free_here : (s : ℕ) → s < length items → is_some (get_or items s None) ≡ true → IsUsedAs (state_seen r) s (Free, 0)
+    free_here s below here = free_as s (used_place (state_seen r).slots items s flags below ∙ lies (get_or items s None) here)
+      where
+        lies : (o : Option X) → is_some o ≡ true → is_none o ≡ false
+        lies None is = absurd (cc)
+        lies (Some x) is = refl
 
     free_past : (s : ℕ) → length items ≤ s → IsUsedAs (state_seen r) s (Free, 0)
     free_past s past = free_as s (let same = rested_many in ap (λ (slot : Record). slot.used) (past_end (state_seen r).slots s no_slot (omega (arith, past, same))))
@@ -73,7 +69,7 @@ module _ (p r : Pass) (looks : LooksOn p r) where
     module _ {T : Type 0} (places : List (Option (Place T))) (left : AreLeft r places) (all : (s : ℕ) → s < length items → LiesSomewhere items places s) where
       used_by : (s : ℕ) (o : Option (Place T)) → get_or places s None ≡ o → (s < length items) ⊎ (length items ≤ s) → IsUsedAs (state_seen r) s (use_in o)
       used_by s (Some place) is which = (left s place is).used
-      used_by s None is (inl below) = ⊎_elim (λ here. free_here s (here_some items s here)) (λ there. absurd (none_some s is there)) (all s below)
+      used_by s None is (inl below) = ⊎_elim (λ here. free_here s below here) (λ there. absurd (none_some s is there)) (all s below)
         where
           none_some : (s : ℕ) → get_or places s None ≡ None → is_some (get_or places s None) ≡ true → ⊥
           none_some s is there = let e : false ≡ true = sym (ap is_some is) ∙ there in cc
@@ -102,7 +98,7 @@ left_none {T} pass items none s place is = absurd (nothing (sym (none s) ∙ is)
 -- Another look changes nothing of that.
 pub come_on : {T : Type 0} (p q r : Pass) (found : Found T) → ComesToRest p q found → LooksOn q r → IsSole q.id → ComesToRest p r found
 come_on p q r found comes looks sole =
-    let same : state_seen r ≡ state_seen q = looked_state q r looks sole in record {
+    let same : state_seen r ≡ state_seen q = ap state_seen (looked_pass q r looks sole) in record {
       same = same_twice p q r comes.same looks.same;
       goes_on = subst (λ (log : List Entry). GoesOnTo p.name p.seen log) (sym (looks.alone sole)) comes.goes_on;
       made = comes.made ∙ ap (λ (st : State). length st.slots) (sym same);

@@ -1,9 +1,10 @@
 -- What was left of a slot on its shelf, in its place.
 use Rattle.std.proofs.Common.{◌≡◌, ℕ, ◌<◌, ◌≤◌, ◌==◌, Bool, true, false, not, if◌then◌else◌, Option, None, Some, refl, sym, ap, subst, ◌∙◌, arith}
+use Rattle.seize_machine.proofs.Facts.{and_true}
 use Rattle.seize_machine.specs.Machine.State as machine
 use Rattle.seize_model.specs.Waiting.Calls.{is_free, is_owned}
 use Rattle.seize_book.specs.Homesteads.{state_seen}
-use Rattle.seize_book.specs.Slots.{active_of}
+use Rattle.seize_book.specs.Slots.{active_of, slot_of}
 use Rattle.seize_book.specs.Tokens.{Name}
 use Rattle.seize_book.specs.declared.book.pass.Pass.{Pass}
 use Rattle.seize_words.specs.Joined.{words_book}
@@ -23,6 +24,7 @@ use Rattle.seize_parts.specs.Reservations.{IsReservation, IsUnit, IsUnitIn, plac
 use Rattle.seize_parts.specs.Shelves.{IsLaidFor}
 use Rattle.seize_parts.specs.declared.alone.place.Unit.{Unit as Held}
 use Rattle.seize_parts.specs.declared.reservation.Reservation.{Reservation}
+use Rattle.seize_parts.proofs.Swept.{idle_call}
 
 -- How the slot is used, as its key and the pass know.
 
@@ -44,8 +46,8 @@ owned_is false is = absurd (cc)
 module _ {T : Type 0} (words : Words T) (slot slot' : Slot T) (p p' : Pass) (for : IsPassFor words p) (of : IsSlotOf words slot) (of' : IsSlotOf words slot') (looks : SlotLooks slot p slot' p') where
   pub used_left : (most guards : ℕ) → guards ≤ most → active_of slot'.holder.key ≡ not (guards == 0) → IsUsedAs (state_seen p') (its_number slot) (kind_if_owned (most == 1), guards)
   used_left most guards fits active = let so = shown slot slot' p p' looks (of.0.book ∙ for.0) in record {
-    used = ap (λ (r : machine.Slot). r.used) so.0 ∙ of'.1 ∙ in_use (most == 1);
-    idle = ap (λ (r : machine.Slot). r.call) so.0 ∙ so.2;
+    used = ap (λ (r : machine.Slot). r.used) so.0 ∙ (and_true (slot_of slot'.holder.key).used _ of'.1).0 ∙ in_use (most == 1);
+    idle = ap (λ (r : machine.Slot). r.call) so.0 ∙ idle_call (slot_of slot'.holder.key) of'.1;
     active = so.1 ∙ active;
     free = never_free (most == 1) guards;
     owned = λ is. one_at_most most guards (owned_is (most == 1) is) fits;

@@ -1,39 +1,44 @@
--- What a slot's calls leave of all others, and of the links, where the pass is alone.
-use Rattle.std.proofs.Common.{◌≡◌, ℕ, zero, suc, ◌==◌, is_some, slice_set, Bool, false, List, [], ◌∷◌, ◌++◌, map, None, Some, refl, sym, ap, subst, ◌∙◌, append-nil}
-use Rattle.std.specs.Prelude.{slice_index_or}
+-- What a slot's calls and events leave of all others, and of the links, where the pass is alone.
+use Rattle.std.proofs.Common.{◌≡◌, ℕ, zero, suc, ◌==◌, is_some, Bool, true, false, not, cond, filter, List, [], ◌∷◌, ◌++◌, map, Option, None, Some, refl, sym, ap, subst, ◌∙◌, append-nil, append_assoc}
 use Rattle.std.proofs.lemmas.List.{append_cancel_left}
+use Rattle.std.proofs.lemmas.List.Elements.{filter-append}
 use native.Mathlib.Decide.{ℕ_discrete}
 use base.Growing.{prefix_refl, prefix_trans}
 use mathlib.Core.List.{IsPrefix}
-use Rattle.seize_machine.proofs.Facts.{Step, active_frame, link_frame, slot_frame, step_of}
+use Rattle.seize_machine.proofs.Facts.{Step, active_frame, and_true, eq_true, head_frame, link_frame, not_true, slot_frame, step_of}
 use Rattle.seize_machine.specs.Machine.Event.{AddCount, Begin, Detach, Enter, Event, ExchangeLink, Give, Hand, Insert, Put, ReadHead, ReadLink, Return, SubCount, SwapOut, Take, event_slot}
-use Rattle.seize_machine.specs.Machine.Frames.{changes_link, changes_slot}
+use Rattle.seize_machine.specs.Machine.Frames.{changes_head_of, changes_link, changes_slot}
 use Rattle.seize_machine.specs.Machine.History.{done_by, or_illegal}
 use Rattle.seize_machine.specs.Machine.Next.{Outcome, next}
-use Rattle.seize_machine.specs.Machine.State.{Slot as Record, State, head_at, is_active, no_slot, slot_at}
+use Rattle.seize_machine.specs.Machine.State.{Progress, Slot as Record, State, head_at, is_active, is_idle, slot_at}
 use Rattle.seize_machine.specs.declared.machine.event.Answer.{Answer}
 use Rattle.seize_machine.specs.declared.machine.event.Answer.TheVariants.{Count, Done, Handed, Head, Illegal, Link}
 use Rattle.seize_machine.specs.declared.machine.event.Job.{Job}
 use Rattle.seize_machine.specs.declared.machine.event.Job.TheVariants.{Flush, Leave}
-use Rattle.seize_book.specs.Adding.{private}
-use Rattle.seize_book.specs.Book.{after, with_answers}
-use Rattle.seize_book.specs.Entry.{Deed, Entry, Made, Used, timed_deed}
+use Rattle.seize_book.specs.Book.{after, mine, with_answers}
+use Rattle.seize_book.specs.Entry.{Deed, Entry, Made, Used, maker, timed_deed}
 use Rattle.seize_book.specs.Homesteads.{state_seen}
 use Rattle.seize_book.specs.Passes.{IsSamePass, LooksOn, events_by, events_in}
+use Rattle.seize_book.specs.Slots.{slot_number}
 use Rattle.seize_book.specs.Tokens.{AddsEntry, IsSole, Name, start}
 use Rattle.seize_book.specs.declared.book.pass.Pass.{Pass}
 use Rattle.seize_book.proofs.Facts.{same_twice, unequal}
-use Rattle.seize_calls.proofs.Alone.{alone_none, alone_noted, alone_twice, made_added, made_there}
+use Rattle.seize_calls.proofs.Alone.{alone_none, alone_noted, alone_twice, answered_append, made_added, made_there}
 use Rattle.seize_calls.specs.Alone.{AddsAlone}
 use Rattle.seize_calls.specs.Handing.{Had}
-use Rattle.seize_calls.specs.Slots.{IsOfWords, IsPassFor, Prepares, SlotEnters, SlotFlushes, SlotGives, SlotLeaves, SlotLooks, SlotTakes, its_number}
+use Rattle.seize_calls.specs.Settling.{done_event}
+use Rattle.seize_calls.specs.Slots.{IsOfWords, IsPassFor, Prepares, SlotEnters, SlotFlushes, SlotLeaves, SlotLooks, SlotResumes, its_number}
 use Rattle.seize_calls.specs.declared.slot.Slot.{Slot}
 use Rattle.seize_words.specs.declared.activation.Activation.{Activation}
 use Rattle.seize_words.specs.declared.words.Words.{Words}
+use Rattle.seize_alone.specs.Events.{MakesAlone}
+use Rattle.seize_alone.proofs.Singles.{made_next}
 use Rattle.seize_parts.specs.Makes.{AreStepsOf, IsStepOf, Makes, MakesCall, made_with}
-use Rattle.seize_parts.specs.Sweeps.{IsLedBy, IsOff, KeepsOn, KeepsOthers, LeavesNothing, KeepsElse, LiesHere}
+use Rattle.seize_parts.specs.Places.{IsUnmoved}
+use Rattle.seize_parts.specs.Sweeps.{IsLedBy, IsOff, KeepsActive, KeepsIdle, KeepsOn, KeepsOthers}
 use Rattle.seize_parts.proofs.Made.{as_made, made_grew, one_added, step_added}
-use Rattle.seize_parts.proofs.Steps.{any_put, any_puts}
+use Rattle.seize_parts.proofs.Steps.{any_put, any_puts, goes_drained, goes_settled, goes_then}
+use Rattle.seize_parts.proofs.Stilled.{same_pass}
 use Rattle.seize_parts.proofs.Wholly.{slot_flushes, slot_leaves}
 
 -- One event of the slot that is on no link.
@@ -88,20 +93,23 @@ later_by pass pass' same adds sole =
     ∙ after_both (start pass.name) pass.seen (adds sole).0
 
 -- what was added is what was made
-pub added_is : (pass pass' : Pass) (es : List (Event × Answer)) → Makes pass pass' es → (adds : AddsAlone pass pass') (sole : IsSole pass.id)
+added_is : (pass pass' : Pass) (es : List (Event × Answer)) → IsSamePass pass pass' → made_with pass' ≡ made_with pass ++ es → (adds : AddsAlone pass pass') (sole : IsSole pass.id)
     → map as_made (events_in (with_answers (state_seen pass) (adds sole).0)) ≡ es
-added_is pass pass' es makes adds sole =
+added_is pass pass' es same made adds sole =
     let log = events_in (with_answers (state_seen pass) (adds sole).0) in
-    append_cancel_left (made_with pass) (map as_made log) es (sym (made_grew pass pass' log (made_added pass pass' makes.same adds sole)) ∙ makes.made)
+    append_cancel_left (made_with pass) (map as_made log) es (sym (made_grew pass pass' log (made_added pass pass' same adds sole)) ∙ made)
+
+led_events : (s : ℕ) (pass pass' : Pass) (es : List (Event × Answer)) → IsSamePass pass pass' → IsPrefix pass.seen pass'.seen → made_with pass' ≡ made_with pass ++ es → AddsAlone pass pass' → IsSole pass.id → AreOf s es → IsLedBy s pass pass'
+led_events s pass pass' es same grows made adds sole are = record {
+  same = same;
+  grows = grows;
+  adds = adds;
+  leads = subst (λ (st : State). KeepsOthers s (state_seen pass) st) (sym (later_by pass pass' same adds sole))
+      (leads_after s (state_seen pass) (adds sole).0 (subst (AreOf s) (sym (added_is pass pass' es same made adds sole)) are));
+}
 
 pub led_by : (s : ℕ) (pass pass' : Pass) (es : List (Event × Answer)) → Makes pass pass' es → AddsAlone pass pass' → IsSole pass.id → AreOf s es → IsLedBy s pass pass'
-led_by s pass pass' es makes adds sole are = record {
-  same = makes.same;
-  grows = makes.grows;
-  adds = adds;
-  leads = subst (λ (st : State). KeepsOthers s (state_seen pass) st) (sym (later_by pass pass' makes.same adds sole))
-      (leads_after s (state_seen pass) (adds sole).0 (subst (AreOf s) (sym (added_is pass pass' es makes adds sole)) are));
-}
+led_by s pass pass' es makes adds sole are = led_events s pass pass' es makes.same makes.grows makes.made adds sole are
 
 -- the same, where the entries that were made are known
 pub led_made : (s : ℕ) (pass pass' : Pass) (made : List (Deed × Answer)) → IsSamePass pass pass' → AddsAlone pass pass' → IsSole pass.id → events_by pass' ≡ events_by pass ++ made → AreOf s (map as_made made)
@@ -145,6 +153,9 @@ of_append : (s : ℕ) (a b : List (Event × Answer)) → AreOf s a → AreOf s b
 of_append s [] b one two = two
 of_append s (x ∷ a) b one two = (one.0, of_append s a b one.1 two)
 
+enter_off : (size s : ℕ) (st : State) (o : State × Answer) → Step size st (Enter s) o → is_active (head_at st s) ≡ false
+enter_off size s st _ (Step.entered _ idle off) = off
+
 -- One after the other.
 
 pub led_none : (s : ℕ) (pass pass' : Pass) → IsSamePass pass pass' → pass'.seen ≡ pass.seen → IsLedBy s pass pass'
@@ -163,6 +174,10 @@ led_then s a b c one two = record {
   leads = leads_then s (state_seen a) (state_seen b) (state_seen c) one.leads two.leads;
 }
 
+-- of a slot with the same number
+pub led_as : (s t : ℕ) (pass pass' : Pass) → t ≡ s → IsLedBy t pass pass' → IsLedBy s pass pass'
+led_as s t pass pass' same led = subst (λ (k : ℕ). IsLedBy k pass pass') same led
+
 pub keeps_on : (s : ℕ) (pass pass' : Pass) → IsLedBy s pass pass' → KeepsOn pass pass'
 keeps_on s pass pass' led = (led.same, led.grows, led.leads.links, led.adds)
 
@@ -176,10 +191,6 @@ pub still_sole : (pass pass' : Pass) → IsSamePass pass pass' → IsSole pass.i
 still_sole pass pass' same sole = subst IsSole (sym same.1) sole
 
 -- A slot's calls.
-
--- an event by which another slot is as it was
-pub event_of : (s k : ℕ) (event : Event) → event_slot event ≡ k → k ≡ s → ((t : ℕ) → changes_slot t event ≡ (event_slot event == t)) → ((l : ℕ) → changes_link l event ≡ false) → IsOf s event
-event_of s k event its same slot link = ((λ t differs. slot t ∙ other s t (event_slot event) (its ∙ same) differs), link)
 
 module _ {T : Type 0} (slot : Slot T) (pass ready : Pass) (prepares : Prepares slot pass ready) (sole : IsSole pass.id) where
   pub prepared_same : state_seen ready ≡ state_seen pass
@@ -213,16 +224,16 @@ module _ {T : Type 0} (slot : Slot T) (pass : Pass) (slot' : Slot T) (pass' : Pa
   pub enters : (a : Activation) → SlotEnters slot pass a slot' pass' → IsLedBy (its_number slot) pass pass'
   enters a e = led_deed slot pass e.ready e.prepares sole (its_number slot) pass' _ refl e.does.0 e.does.2.0 ((λ t differs. other (its_number slot) t (its_number slot) refl differs), λ l. refl)
 
-  pub takes : SlotTakes slot pass slot' pass' → IsLedBy (its_number slot) pass pass'
-  takes e = let c = e.0 in led_deed slot pass c.ready c.prepares sole (its_number slot) pass' _ refl c.does.0 c.does.2.0 ((λ t differs. other (its_number slot) t (its_number slot) refl differs), λ l. refl)
-
-  pub gives : SlotGives slot pass slot' pass' → IsLedBy (its_number slot) pass pass'
-  gives e = let c = e.0 in led_deed slot pass c.ready c.prepares sole (its_number slot) pass' _ refl c.does.0 c.does.2.0 ((λ t differs. other (its_number slot) t (its_number slot) refl differs), λ l. refl)
-
   pub looks : (s : ℕ) → SlotLooks slot pass slot' pass' → IsLedBy s pass pass'
   looks s e = let c = e.0 in
       led_then s pass c.ready pass' (led_prepared slot pass c.ready c.prepares sole s)
       (led_none s c.ready pass' c.does.on.same (c.does.on.alone (prepared_sole slot pass c.ready c.prepares sole)))
+
+  -- where a slot enters it was not active
+  pub entered_off : (a : Activation) → SlotEnters slot pass a slot' pass' → IsOff pass (its_number slot)
+  entered_off a e =
+      ap (λ (st : State). is_active (head_at st (its_number slot))) (sym (ap (λ (log : List Entry). after (start e.ready.name) log) (e.does.2.0.alone (prepared_sole slot pass e.ready e.prepares sole)) ∙ prepared_same slot pass e.ready e.prepares sole))
+      ∙ enter_off e.ready.size (its_number slot) (after (start e.ready.name) e.does.2.0.before) _ (step_added e.ready pass' _ e.does.2.0)
 
   module _ (words : Words T) (of : IsOfWords words slot') (for : IsPassFor words pass) (before ended : Had) where
     pub flushes : (retired : Bool) → SlotFlushes slot pass before slot' pass' ended retired → IsLedBy (its_number slot) pass pass'
@@ -232,78 +243,89 @@ module _ {T : Type 0} (slot : Slot T) (pass : Pass) (slot' : Slot T) (pass' : Pa
     pub leaves : SlotLeaves slot pass before slot' pass' ended → IsLedBy (its_number slot) pass pass'
     leaves e = led_call slot pass e.ready e.prepares sole (its_number slot) Leave pass' (slot_leaves (λ _ _ _. Unit {0}) pass' (any_puts pass'.seen) words slot pass slot' of for before ended (any_put pass'.seen ended) e) e.does.rests.alone
 
--- the slot is the same all the while
-pub led_as : (s t : ℕ) (pass pass' : Pass) → t ≡ s → IsLedBy t pass pass' → IsLedBy s pass pass'
-led_as s t pass pass' same led = subst (λ (k : ℕ). IsLedBy k pass pass') same led
+    -- what goes on from where a call began
+    pub resumes : SlotResumes slot pass before slot' pass' ended → IsLedBy (its_number slot) pass pass'
+    resumes e =
+        let r = e.does in let final = pass'.seen in let gives = any_puts final in let ready = e.ready in let last = r.ends.drained in let s = slot_number slot.holder.key in
+        let drains = goes_drained gives r.settled last r.ends.drains.drains (any_put final last.had) r.ends.returns.keeps.on.grows in
+        let goes = goes_then gives (goes_settled gives 0 _ r.settled r.retired r.settles drains.before (prefix_trans r.settled.pass.seen last.pass.seen final drains.grows r.ends.returns.keeps.on.grows)) drains in
+        let made = made_grew last.pass pass' (done_event last.pass (Return (slot_number last.key))) r.ends.returns.made ∙ ap (λ (es : List (Event × Answer)). es ++ (Return (slot_number last.key), Done) ∷ []) goes.runs.made
+        ∙ append_assoc (made_with ready) goes.runs.steps ((Return (slot_number last.key), Done) ∷ []) in
+        led_then (its_number slot) pass ready pass' (led_prepared slot pass ready e.prepares sole (its_number slot))
+        (led_as (its_number slot) s ready pass' slot.together.numbered
+        (led_events s ready pass' (goes.runs.steps ++ (Return (slot_number last.key), Done) ∷ []) r.rests.same r.rests.grows made r.rests.alone (prepared_sole slot pass ready e.prepares sole)
+        (of_append s goes.runs.steps _ (of_steps (λ _ _. Unit {0}) s goes.runs.steps goes.runs.its) (((λ t differs. other s t (slot_number last.key) goes.its differs), λ l. refl), tt))))
 
--- What stays of slots that are not active, or that leave nothing.
+-- What stays of slots that are not active, or have no call.
 
-pub kept_off : (s n t : ℕ) (pass pass' : Pass) → s ≡ n → IsLedBy s pass pass' → IsOff pass' n → IsOff pass t → IsOff pass' t
-kept_off s n t pass pass' same led off was = go (ℕ_discrete t n)
+pub kept_off : (s t : ℕ) (pass pass' : Pass) → IsLedBy s pass pass' → IsOff pass' s → IsOff pass t → IsOff pass' t
+kept_off s t pass pass' led off was = go (ℕ_discrete t s)
   where
-    go : Dec (t ≡ n) → IsOff pass' t
+    go : Dec (t ≡ s) → IsOff pass' t
     go (yes e) = subst (IsOff pass') (sym e) off
-    go (no differs) = led.leads.active t (λ e. differs (e ∙ same)) ∙ was
+    go (no differs) = led.leads.active t differs ∙ was
 
-pub kept_left : (s n t : ℕ) (pass pass' : Pass) → s ≡ n → IsLedBy s pass pass' → ¬ (t ≡ n) → LeavesNothing pass t → LeavesNothing pass' t
-kept_left s n t pass pass' same led differs was =
-    let apart : ¬ (t ≡ s) = λ e. differs (e ∙ same) in record {
-      call = ap (λ (z : Record). is_some z.call) (led.leads.slots t apart) ∙ was.call;
-      off = led.leads.active t apart ∙ was.off;
-      batch = ap (λ (z : Record). z.batch) (led.leads.slots t apart) ∙ was.batch;
-    }
+pub active_led : (s : ℕ) (pass pass' : Pass) → IsLedBy s pass pass' → is_active (head_at (state_seen pass') s) ≡ is_active (head_at (state_seen pass) s) → KeepsActive pass pass'
+active_led s pass pass' led own t = go (ℕ_discrete t s)
+  where
+    go : Dec (t ≡ s) → is_active (head_at (state_seen pass') t) ≡ is_active (head_at (state_seen pass) t)
+    go (yes e) = subst (λ (k : ℕ). is_active (head_at (state_seen pass') k) ≡ is_active (head_at (state_seen pass) k)) (sym e) own
+    go (no differs) = led.leads.active t differs
 
-there_set : {X : Type 0} (P : X → Type 0) (xs : List X) (n : ℕ) (x d : X) → P x → P (slice_index_or xs n d) → P (slice_index_or (slice_set xs n x) n d)
-there_set P [] n x d new old = old
-there_set P (y ∷ xs) zero x d new old = new
-there_set P (y ∷ xs) (suc n) x d new old = there_set P xs n x d new old
+pub idle_led : (s : ℕ) (pass pass' : Pass) → IsLedBy s pass pass' → (slot_at (state_seen pass') s).call ≡ None → KeepsIdle pass pass'
+idle_led s pass pass' led own t was = go (ℕ_discrete t s)
+  where
+    go : Dec (t ≡ s) → (slot_at (state_seen pass') t).call ≡ None
+    go (yes e) = subst (λ (k : ℕ). (slot_at (state_seen pass') k).call ≡ None) (sym e) own
+    go (no differs) = ap (λ (x : Record). x.call) (led.leads.slots t differs) ∙ was
 
--- when a number goes back, its slot keeps its batch, and has no call still
-given_step : (size : ℕ) (st : State) (s : ℕ) (d : State × Answer) → Step size st (Give s) d
-    → ((slot_at d.0 s).batch ≡ (slot_at st s).batch) × ((slot_at d.0 s).call ≡ (slot_at st s).call) × (head_at d.0 s ≡ head_at st s)
-given_step size st s _ (Step.gave _ idle off) = (
-  there_set (λ (z : Record). z.batch ≡ (slot_at st s).batch) st.slots s (record (slot_at st s) { used = false }) no_slot refl refl,
-  there_set (λ (z : Record). z.call ≡ (slot_at st s).call) st.slots s (record (slot_at st s) { used = false }) no_slot refl refl,
-  refl,
-)
+pub idle_call : (slot : Record) → is_idle slot ≡ true → slot.call ≡ None
+idle_call slot idle = none slot.call (not_true (is_some slot.call) (and_true slot.used _ idle).1)
+  where
+    none : (o : Option Progress) → is_some o ≡ false → o ≡ None
+    none None is = refl
+    none (Some call) is = absurd (cc)
 
-module _ {T : Type 0} (slot : Slot T) (pass : Pass) (slot' : Slot T) (pass' : Pass) (sole : IsSole pass.id) (e : SlotGives slot pass slot' pass') where
-  given_before : after (start e.0.ready.name) e.0.does.2.0.before ≡ state_seen pass
-  given_before =
-      ap (λ (log : List Entry). after (start e.0.ready.name) log) (e.0.does.2.0.alone (prepared_sole slot pass e.0.ready e.0.prepares sole)) ∙ prepared_same slot pass e.0.ready e.0.prepares sole
+-- A look with a pass that is alone.
 
-  pub given_later : state_seen pass' ≡ e.0.does.2.0.later
-  given_later = ap (λ (n : Name). after (start n) pass'.seen) e.0.does.0.0 ∙ e.0.does.2.0.leads
+pub looked_pass : (p q : Pass) → LooksOn p q → IsSole p.id → q ≡ p
+looked_pass p q looks sole = let still : IsUnmoved p q = record { same = looks.same; alone = looks.alone } in same_pass sole still
 
-  own_left : LeavesNothing pass (its_number slot) → LeavesNothing pass' (its_number slot)
-  own_left was =
-      let s = its_number slot in
-      let is = given_step e.0.ready.size (after (start e.0.ready.name) e.0.does.2.0.before) s (e.0.does.2.0.later, e.0.does.2.0.answer) (step_added e.0.ready pass' (private e.0.ready (Give s)) e.0.does.2.0) in record {
-        call = ap (λ (st : State). is_some (slot_at st s).call) given_later ∙ ap is_some is.1 ∙ ap (λ (st : State). is_some (slot_at st s).call) given_before ∙ was.call;
-        off = ap (λ (st : State). is_active (head_at st s)) given_later ∙ ap is_active is.2 ∙ ap (λ (st : State). is_active (head_at st s)) given_before ∙ was.off;
-        batch = ap (λ (st : State). (slot_at st s).batch) given_later ∙ is.0 ∙ ap (λ (st : State). (slot_at st s).batch) given_before ∙ was.batch;
-      }
+pub keeps_looked : (pass pass' : Pass) → LooksOn pass pass' → IsSole pass.id → KeepsOn pass pass'
+keeps_looked pass pass' looks sole = keeps_on 0 pass pass' (led_none 0 pass pass' looks.same (looks.alone sole))
 
-  pub given_left : (t : ℕ) → LeavesNothing pass t → LeavesNothing pass' t
-  given_left t was = go (ℕ_discrete t (its_number slot))
+-- One event of a pass that is alone.
+
+-- an event by which another slot is as it was
+pub event_of : (s : ℕ) (event : Event) → event_slot event ≡ s → ((t : ℕ) → changes_slot t event ≡ (event_slot event == t)) → ((l : ℕ) → changes_link l event ≡ false) → IsOf s event
+event_of s event its slot link = ((λ t differs. slot t ∙ other s t (event_slot event) its differs), link)
+
+module _ {pass pass' : Pass} {event : Event} {answer : Answer} (makes : MakesAlone pass pass' event answer) where
+  abbrev its_answer : Answer
+  its_answer = (done_by next (state_seen pass) (timed_deed makes.deed)).1
+
+  -- it was made with this pass
+  by_pass : makes.deed.pass ≡ pass.id
+  by_pass = go (makes.deed.pass == pass.id) refl
+      (append_cancel_left (mine (start pass.name) pass.id pass.seen) _ _
+      (sym (filter-append (λ a. maker a.0 == pass.id) (with_answers (start pass.name) pass.seen) ((Made makes.deed, its_answer) ∷ []))
+      ∙ ap (filter (λ a. maker a.0 == pass.id)) (sym (answered_append (start pass.name) pass.seen (Made makes.deed ∷ [])))
+      ∙ ap (λ (log : List Entry). mine (start pass.name) pass.id log) (ap (λ (log : List Entry). log ++ Made makes.deed ∷ []) (sym (makes.noted.alone makes.sole)) ∙ sym makes.noted.appended)
+      ∙ makes.noted.made))
     where
-      go : Dec (t ≡ its_number slot) → LeavesNothing pass' t
-      go (yes same) = subst (LeavesNothing pass') (sym same) (own_left (subst (LeavesNothing pass) same was))
-      go (no differs) = kept_left (its_number slot) (its_number slot) t pass pass' refl (gives slot pass slot' pass' sole e) differs was
+      go : (b : Bool) → (makes.deed.pass == pass.id) ≡ b → cond {A = List (Entry × Answer)} b ((Made makes.deed, its_answer) ∷ []) [] ≡ (Made makes.deed, makes.noted.answer) ∷ [] → makes.deed.pass ≡ pass.id
+      go true is same = eq_true makes.deed.pass pass.id is
+      go false is same = absurd (cc)
 
--- The slots that do not lie here.
+  pub alone_led : (s : ℕ) → IsOf s event → IsLedBy s pass pass'
+  alone_led s is =
+      led_by s pass pass' ((makes.deed.event, makes.noted.answer) ∷ []) (one_added pass pass' makes.deed makes.same makes.noted) (alone_noted pass pass' (Made makes.deed) by_pass makes.noted) makes.sole
+      (subst (IsOf s) (sym makes.is) is, tt)
 
-pub else_none : (flags : List Bool) (pass : Pass) → KeepsElse flags pass pass
-else_none flags pass t not = (refl, refl)
+  -- where it leads to
+  pub alone_step : Step makes.deed.size (state_seen pass) event (state_seen pass', answer)
+  alone_step = step_of makes.deed.size (state_seen pass) event (state_seen pass', answer) (made_next makes)
 
-pub else_then : (flags : List Bool) (a b c : Pass) → KeepsElse flags a b → KeepsElse flags b c → KeepsElse flags a c
-else_then flags a b c one two t not = let first = one t not in let second = two t not in (second.0 ∙ first.0, second.1 ∙ first.1)
-
--- what a slot that lies here does leaves them as they were
-pub else_led : (flags : List Bool) (s n : ℕ) (pass pass' : Pass) → s ≡ n → LiesHere flags n → IsLedBy s pass pass' → KeepsElse flags pass pass'
-else_led flags s n pass pass' same here led t not =
-    let apart : ¬ (t ≡ s) = λ e. not (subst (LiesHere flags) (sym (e ∙ same)) here) in (led.leads.slots t apart, led.leads.active t apart)
-
--- in the places as they were before
-pub else_more : (flags flags' : List Bool) (a b c : Pass) → flags' ≡ flags → KeepsElse flags a b → KeepsElse flags' b c → KeepsElse flags' a c
-else_more flags flags' a b c same one two = else_then flags' a b c (subst (λ (us : List Bool). KeepsElse us a b) (sym same) one) two
+  -- it changes no head
+  pub alone_heads : ((t : ℕ) → changes_head_of t event ≡ false) → KeepsActive pass pass'
+  alone_heads none t = ap is_active (head_frame t makes.deed.size (state_seen pass) event (state_seen pass', answer) alone_step (none t))

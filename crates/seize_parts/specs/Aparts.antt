@@ -10,21 +10,24 @@
 --                            was told
 --     Fits pass st           the state has the size of the pass, and the links of the pass's list begin with values that differ
 --     MayGo pass places st   it fits, and what lies in these places is what the state says
+--     MayPart pass n places st     it fits, and what lies in place n is what the state says
 --     IsIn pass s place st   it fits, and slot s is in use there; what lies in its place is this
+--     AreKeptOf kept st      just the slots that are in use there are kept, and none of them has a guard
+--     MovesToKept n places kept kept'     what lies in place n is kept then in place n of these, and else nothing is changed
+--     LeadsHands code May does pass pass'     where the hands hold a state of which `May` says so, they hold the one that `does` gives of
+--                            it, by the same names and kinds
 --     IsSomeHeld code pass May     the hands hold some state of which `May` says so, as the pass has seen
---     GivesBack k pass pass'     the numbers below k went back, by events made alone, one after another, the last one first
 --     Goes code puts told May does pass pass' seen seen' queue queue'     where the hands hold a state of which `May` says so, they hold
 --                            the one that `does` gives of it. What the reclaimer had are the values that are gone then; it put as `puts`
 --                            says, what it put waits, and the watch was told
 --     GoesAll                so it is where all is reclaimed with what is put, and the watch was told of that too
-use Rattle.std.specs.Prelude.{◌≡◌, ℕ, zero, suc, true, false, Option, List, [], ◌∷◌, ◌++◌, map}
+use Rattle.std.specs.Prelude.{◌≡◌, ℕ, true, false, not, ◌&&◌, ◌==◌, None, Option, List, [], ◌∷◌, ◌++◌, get_or, length, map, option_map}
+use Rattle.std.specs.Option.{is_none}
 use base.Stored.{Gv}
-use Rattle.seize_machine.specs.Machine.Event.{Give}
-use Rattle.seize_machine.specs.declared.machine.event.Answer.{Answer}
 use Rattle.seize_machine.specs.Machine.State.{are_distinct, linked_values}
 use Rattle.seize_model.specs.Waiting.Attempt.{StateAndGone}
 use Rattle.seize_model.specs.Waiting.Calls.{is_free, reclaim_all}
-use Rattle.seize_model.specs.Waiting.State.{ModelState, model_slot}
+use Rattle.seize_model.specs.Waiting.State.{ModelState, has_guard, model_slot}
 use Rattle.seize_book.specs.Kept.{kepts_of}
 use Rattle.seize_book.specs.Passes.{IsSamePass}
 use Rattle.seize_book.specs.Tokens.{Name}
@@ -33,11 +36,11 @@ use Rattle.seize_book.specs.declared.book.pass.Pass.{Pass}
 use Rattle.seize_calls.specs.Furthers.{further_in}
 use Rattle.seize_calls.specs.Handing.{Had, IsServed}
 use Rattle.seize_calls.specs.declared.further.Further.{Further}
-use Rattle.seize_alone.specs.Events.{MakesAlone}
+use Rattle.seize_calls.specs.declared.slot.Slot.{Slot}
 use Rattle.seize_alone.specs.Gone.{AreNamesOf, PutAs}
 use Rattle.seize_alone.specs.Holding.{Holds, HoldsThen}
 use Rattle.seize_parts.specs.Places.{LiesThen}
-use Rattle.seize_parts.specs.Placing.{ArePlaces, lying_in}
+use Rattle.seize_parts.specs.Placing.{ArePlaces, AreSound, lies_for, lying_in, what_lies_in}
 use Rattle.seize_parts.specs.Told.{HasTold, told_of}
 use Rattle.seize_parts.specs.declared.alone.aside.Aside.{Aside}
 use Rattle.seize_parts.specs.declared.alone.place.Place.{Place}
@@ -83,6 +86,10 @@ Fits pass st = (st.size ≡ pass.size) × (are_distinct (linked_values pass.name
 abbrev pub MayGo : {T : Type 0} → Pass → List (Option (Place T)) → ModelState T ℕ → Type 0
 MayGo pass places st = Fits pass st × ArePlaces pass.name st places
 
+abbrev pub MayPart : {T : Type 0} → Pass → ℕ → List (Option (Place T)) → ModelState T ℕ → Type 0
+MayPart pass n places st =
+    Fits pass st × (option_map what_lies_in (get_or places n None) ≡ lies_for pass.name (model_slot st n) n) × AreSound places
+
 abbrev pub IsIn : {T : Type 0} → Pass → ℕ → Place T → ModelState T ℕ → Type 0
 IsIn pass s place st = Fits pass st × (is_free (model_slot st s).kind ≡ false) × LiesThen place (lying_in pass.name (model_slot st s) s)
 
@@ -90,9 +97,21 @@ abbrev pub IsSomeHeld : {T : Type 0} → (T → Gv) → Pass → (ModelState T �
 IsSomeHeld {T} code pass May =
     (st : ModelState T ℕ) × (names : List (ℕ × T)) × (kinds : List (ℕ × ℕ)) × Holds code st names kinds pass.name pass.seen × May st
 
-abbrev pub GivesBack : ℕ → Pass → Pass → Type 0
-GivesBack zero pass pass' = pass' ≡ pass
-GivesBack (suc k) pass pass' = (mid : Pass) × (answer : Answer) × MakesAlone pass mid (Give k) answer × GivesBack k mid pass'
+abbrev pub AreKeptOf : {T : Type 0} → List (Option (Slot T)) → ModelState T ℕ → Type 0
+AreKeptOf kept st =
+    (s : ℕ) → (is_none (get_or kept s None) ≡ is_free (model_slot st s).kind)
+    × (is_free (model_slot st s).kind ≡ false → has_guard (model_slot st s) ≡ false)
+
+abbrev pub MovesToKept : {T : Type 0} → ℕ → List (Option (Place T)) → List (Option (Slot T)) → List (Option (Slot T)) → Type 0
+MovesToKept n places kept kept' =
+    (length kept' ≡ length kept)
+    × ((i : ℕ) → is_none (get_or kept' i None)
+    ≡ (is_none (get_or kept i None) && not ((i == n) && not (is_none (get_or places n None)))))
+
+abbrev pub LeadsHands : {T : Type 0} → (T → Gv) → (ModelState T ℕ → Type 0) → (ModelState T ℕ → ModelState T ℕ) → Pass → Pass → Type 0
+LeadsHands {T} code May does pass pass' =
+    (st : ModelState T ℕ) (names : List (ℕ × T)) (kinds : List (ℕ × ℕ)) → May st → Holds code st names kinds pass.name pass.seen
+    → Holds code (does st) names kinds pass'.name pass'.seen
 
 pub record Goes {T Seen : Type 0} (code : T → Gv) (puts : ℕ → T → List T) (told : Seen → T → Seen) (May : ModelState T ℕ → Type 0)
     (does : ModelState T ℕ → StateAndGone T ℕ) (pass pass' : Pass) (seen seen' : Seen) (queue queue' : Further) : Type 0 where

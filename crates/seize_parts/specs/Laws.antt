@@ -7,7 +7,7 @@
 use Rattle.std.specs.Prelude.{◌≡◌, ℕ, true, List}
 use base.Stored.{Gv}
 use Rattle.seize_machine.specs.Machine.History.{Moment}
-use Rattle.seize_machine.specs.Machine.Laws.{After, AtMostOnce, Gone, Holders, NoLaterHolders, Protection, Quiet, Tries, UnderGuard, Whereabouts}
+use Rattle.seize_machine.specs.Machine.Laws.{After, AtMostOnce, Gone, Holders, NoLaterHolders, Protection, Quiet, Tries, UnderGuard, Unused, Whereabouts}
 use Rattle.seize_machine.specs.Machine.State.{State, has}
 use Rattle.seize_book.specs.Book.{moments}
 use Rattle.seize_book.specs.Homesteads.{state_seen}
@@ -25,6 +25,7 @@ pub record LawsOf (st : State) (ms : List Moment) : Type 0 where
   pub at_most_once : AtMostOnce st ms
   pub after : After st ms
   pub quiet : Quiet st ms
+  pub unused : Unused st ms
   pub protection : Protection st ms
   pub whereabouts : Whereabouts st ms
   pub gone : Gone st ms

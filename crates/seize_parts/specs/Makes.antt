@@ -12,23 +12,28 @@
 --     made_by s st log        the events of slot s in a list that goes on from this state, with their answers, but for steps on links
 --     Undivided s pass pass' events     these are all events that slot s made between two points of the list, but for steps on links.
 --                             Before the first and after the second no more was made with the pass
---     whole_call s job steps  the events of a call of slot s with this job and these steps, from its begin to its return
---     MakesCall IsPut s job pass pass'     such a call was made, with `IsPut` of the pass as it is then, and no other event of the slot
+--     whole_call s first steps    the events of a call of slot s with this first event and these steps, up to its return
+--     MakesWhole IsPut s first pass pass'     such a call was made, with `IsPut` of the pass as it is then, and no other event of the slot
 --                             stands between its own (`Undivided`)
+--     MakesCall IsPut s job pass pass'     so was one that begins with this job
 --     Defers s job pass pass'     a whole call of slot s, and none of its steps hands a value to its reclaimer
+--     TakesNumber IsPut s pass pass'    the number of slot s was taken: the event `Take` alone, or a whole call that begins with it
+--     TakesAndEnters IsPut s pass pass'    so it was, after which the pass is `taken`, and then the slot entered
+--     GivesNumber IsPut s pass pass'    it went back: as many whole calls of slot s to gather, and then the event `Give`
 --     LeavesAndGives IsPut s pass pass'    a whole call of slot s to leave, after which the pass is `left`, and then its number went back
---     EndsUse s pass pass' gave     the use of slot s ended: its number went back; or no event was made, and it is active (`StaysActive`)
+--     EndsUse IsPut s pass pass' gave     the use of slot s ended: its number went back; or no event was made, and it is active
+--                             (`StaysActive`)
 --     Enters s pass pass'     slot s entered; or no event was made, and it is active
 --     IsOfKind v kind pass    the retirement of v said that it is of this kind, in what the pass has seen
 use Rattle.std.specs.Prelude.{◌≡◌, ◌⊎◌, ℕ, Bool, true, false, map, List, [], ◌∷◌, ◌++◌}
 use mathlib.Core.List.{IsPrefix}
 use Rattle.seize_machine.specs.Machine.Event.{AddCount, Begin, Detach, Enter, Event, Give, Hand, Insert, Put, ReadHead, Return}
-use Rattle.seize_machine.specs.Machine.Event.{SubCount, SwapOut}
+use Rattle.seize_machine.specs.Machine.Event.{SubCount, SwapOut, Take}
 use Rattle.seize_machine.specs.Machine.State.{State, head_at, is_active}
 use Rattle.seize_machine.specs.declared.machine.event.Answer.{Answer}
 use Rattle.seize_machine.specs.declared.machine.event.Answer.TheVariants.{Done, Handed}
 use Rattle.seize_machine.specs.declared.machine.event.Job.{Job}
-use Rattle.seize_machine.specs.declared.machine.event.Job.TheVariants.{Leave}
+use Rattle.seize_machine.specs.declared.machine.event.Job.TheVariants.{Gather, Leave}
 use Rattle.seize_book.specs.Book.{IsLegalList, after, by_slot}
 use Rattle.seize_book.specs.Entry.{Deed, Entry}
 use Rattle.seize_book.specs.Homesteads.{state_seen}
@@ -95,21 +100,34 @@ pub record Undivided (s : ℕ) (pass pass' : Pass) (events : List (Event × Answ
   pub only : made_by s (state_seen begun) between ≡ events
   pub after : MakesNone ended pass'
 
-abbrev pub whole_call : ℕ → Job → List (Event × Answer) → List (Event × Answer)
-whole_call s job steps = (Begin s job, Done) ∷ steps ++ (Return s, Done) ∷ []
+abbrev pub whole_call : ℕ → Event → List (Event × Answer) → List (Event × Answer)
+whole_call s first steps = (first, Done) ∷ steps ++ (Return s, Done) ∷ []
 
-pub record MakesCall (IsPut : Pass → ℕ → List ℕ → Type 0) (s : ℕ) (job : Job) (pass pass' : Pass) : Type 0 where
+pub record MakesWhole (IsPut : Pass → ℕ → List ℕ → Type 0) (s : ℕ) (first : Event) (pass pass' : Pass) : Type 0 where
   pub steps : List (Event × Answer)
   pub its : AreStepsOf (IsPut pass') s steps
-  pub made : Makes pass pass' (whole_call s job steps)
-  pub undivided : Undivided s pass pass' (whole_call s job steps)
+  pub made : Makes pass pass' (whole_call s first steps)
+  pub undivided : Undivided s pass pass' (whole_call s first steps)
+
+abbrev pub MakesCall : (Pass → ℕ → List ℕ → Type 0) → ℕ → Job → Pass → Pass → Type 0
+MakesCall IsPut s job pass pass' = MakesWhole IsPut s (Begin s job) pass pass'
 
 abbrev pub Defers : ℕ → Job → Pass → Pass → Type 0
 Defers s job pass pass' = MakesCall (λ _ _ _. ⊥) s job pass pass'
 
-abbrev pub LeavesAndGives : (Pass → ℕ → List ℕ → Type 0) → ℕ → Pass → Pass → Type 0
-LeavesAndGives IsPut s pass pass' = (left : Pass) × MakesCall IsPut s Leave pass left × MakesOne left pass' (Give s) Done
+abbrev pub TakesNumber : (Pass → ℕ → List ℕ → Type 0) → ℕ → Pass → Pass → Type 0
+TakesNumber IsPut s pass pass' = MakesOne pass pass' (Take s) Done ⊎ MakesWhole IsPut s (Take s) pass pass'
 
-abbrev pub EndsUse : ℕ → Pass → Pass → Bool → Type 0
-EndsUse s pass pass' true = MakesOne pass pass' (Give s) Done
-EndsUse s pass pass' false = StaysActive s pass pass'
+pub data GivesNumber (IsPut : Pass → ℕ → List ℕ → Type 0) (s : ℕ) : Pass → Pass → Type 0 where
+  gives : (pass pass' : Pass) → MakesOne pass pass' (Give s) Done → GivesNumber IsPut s pass pass'
+  gathers : (pass mid pass' : Pass) → MakesCall IsPut s Gather pass mid → GivesNumber IsPut s mid pass' → GivesNumber IsPut s pass pass'
+
+abbrev pub TakesAndEnters : (Pass → ℕ → List ℕ → Type 0) → ℕ → Pass → Pass → Type 0
+TakesAndEnters IsPut s pass pass' = (taken : Pass) × TakesNumber IsPut s pass taken × MakesOne taken pass' (Enter s) Done
+
+abbrev pub LeavesAndGives : (Pass → ℕ → List ℕ → Type 0) → ℕ → Pass → Pass → Type 0
+LeavesAndGives IsPut s pass pass' = (left : Pass) × MakesCall IsPut s Leave pass left × GivesNumber IsPut s left pass'
+
+abbrev pub EndsUse : (Pass → ℕ → List ℕ → Type 0) → ℕ → Pass → Pass → Bool → Type 0
+EndsUse IsPut s pass pass' true = GivesNumber IsPut s pass pass'
+EndsUse IsPut s pass pass' false = StaysActive s pass pass'

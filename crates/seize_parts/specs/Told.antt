@@ -5,9 +5,9 @@
 --     HasToldFrom c code told first seen' had     so it is with what it had seen first, of which this is the code
 --     only_refusal result        the result, where a refusal gives what the caller passed back
 --     Said a result new          the call answered as the model does, and this is the model's state after it
---     Grew a result old new      so it did; or it was refused memory, and the state is as it was
 --     Did told o new seen seen'  the state is that of this outcome, and the watch was told exactly the values gone, in order
 --     Answers told a result new seen seen'     the call answered as the model does, and so it did
+--     Grew told a result old new seen seen'     so it did; or it was refused memory, the state is as it was, and the watch was told nothing
 use Rattle.std.specs.Prelude.{◌≡◌, ◌⊎◌, List, [], ◌∷◌, Result, Err, Ok}
 use Rattle.std.specs.List.{fold}
 use base.Stored.{Coded, Gv}
@@ -39,11 +39,12 @@ only_refusal (Err e) = Err e.0
 abbrev pub Said : {A T R : Type 0} → Response A T R → Result A Refusal → ModelState T R → Type 0
 Said a result new = (result ≡ a.0) × (new ≡ a.1.0)
 
-abbrev pub Grew : {A T R : Type 0} → Response A T R → Result A Refusal → ModelState T R → ModelState T R → Type 0
-Grew a result old new = ((result ≡ Err NoMemory) × (new ≡ old)) ⊎ Said a result new
-
 abbrev pub Answers : {A T R Seen : Type 0} → (Seen → T → Seen) → Response A T R → Result A Refusal → ModelState T R → Seen → Seen → Type 0
 Answers told a result new seen seen' = Said a result new × (seen' ≡ told_of told seen a.1.1)
+
+abbrev pub Grew : {A T R Seen : Type 0} → (Seen → T → Seen) → Response A T R → Result A Refusal → ModelState T R → ModelState T R
+    → Seen → Seen → Type 0
+Grew told a result old new seen seen' = ((result ≡ Err NoMemory) × (new ≡ old) × (seen' ≡ seen)) ⊎ Answers told a result new seen seen'
 
 abbrev pub Did : {T R Seen : Type 0} → (Seen → T → Seen) → StateAndGone T R → ModelState T R → Seen → Seen → Type 0
 Did told o new seen seen' = (new ≡ o.0) × (seen' ≡ told_of told seen o.1)

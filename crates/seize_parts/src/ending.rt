@@ -40,7 +40,7 @@ pub fn end_all<T: Drop, R: Reclaim<T>>(
 {
     let (mut numbers, mut pass) = (numbers, pass);
     numbers.sweep(words, ender, &mut (), &mut pass);
-    if let Some(slot) = numbers.take_free(words, &mut pass) {
+    if let Some(slot) = numbers.take_free(words, ender, &mut pass) {
         end_links(words, ender, slot, &mut pass);
     }
 }

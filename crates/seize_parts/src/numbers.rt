@@ -1,5 +1,6 @@
-//! The numbers of a collector's slots: which are in use, and the slots of those that are not. They lie behind a lock of the collector.
-ghost use Rattle.std.specs.Prelude.{◌≡◌, ◌≤◌, IfErr, IfOk, None, Some, is_some};
+//! The numbers of a collector's slots: which are in use, the slots of those that are not, and the rest, which slots left in their batches
+//! as they ended. They lie behind a lock of the collector.
+ghost use Rattle.std.specs.Prelude.{◌≡◌, ◌≤◌, IfErr, IfNone, IfOk, IfSome, None, Some, is_some};
 ghost use Rattle.std.specs.List.{position};
 ghost use Rattle.seize_calls.specs.Slots.{IsPassFor, its_number};
 ghost use Rattle.seize_words.specs.Joined.{words_book};
@@ -11,23 +12,27 @@ ghost use Rattle.seize_machine.specs.declared.machine.event.Answer.TheVariants.{
 ghost use Rattle.seize_parts.specs.Makes.{MakesOne};
 ghost use Rattle.seize_parts.specs.Shelves.{IsShelfFor};
 
-mod emptying;
+mod keeping;
 mod parting;
+pub mod reclaiming;
 mod recovering;
 pub mod resting;
-pub mod sweeping;
-pub mod turning;
+pub mod taking;
 
-use crate::reservation::Reservation;
+use crate::ender::Ender;
+use crate::ends::Forwards;
+use crate::reclaim::Reclaim;
 use crate::shelf::{Shelf, Shelves};
+use seize_calls::batch::Batch;
+use seize_calls::manner::Alone;
 use seize_calls::slot::Slot;
-use seize_cells::LockWork;
 use seize_content::Steady;
 use seize_table::Refusal;
 use seize_words::book::{NumbersKey, Pass, Seen};
 use seize_words::slots::NextSlot;
 use seize_words::words::Words;
 use std::alloc::Global;
+use std::cmp::min;
 
 /// What is needed to hand out slots.
 #[derive(Drop)]
@@ -38,6 +43,12 @@ pub struct Numbers<T: Drop> {
     next: Option<NextSlot>,
     /// The slots made so far, by their numbers: each whose number is not in use, and none in the place of one that is in use.
     slots: Vec<Option<Slot<T>>>,
+    /// How many lie there.
+    free: usize,
+    /// Slots in use that nobody has, by their numbers. They are there only while all is reclaimed.
+    kept: Vec<Option<Slot<T>>>,
+    /// What slots left in their batches as they ended. Whoever takes a number next takes it.
+    rest: Batch,
     /// Where the search for the first slot begins: none lies in a place before.
     least: usize,
     /// The shelves of all slots made so far, and perhaps that of the next one.
@@ -45,6 +56,17 @@ pub struct Numbers<T: Drop> {
     /// The list of events.
     book: Seen,
     ghost shelved: { shelves.book.name.family ≡ book.name.family },
+}
+
+/// A slot that took its number, and is inactive.
+#[derive(Drop)]
+pub struct Taken<T: Drop> {
+    /// The slot.
+    pub slot: Slot<T>,
+    /// Whether a call of the slot is under way, which attempts what slots left.
+    pub begun: bool,
+    /// Its shelf.
+    pub shelf: Shelf<T>,
 }
 
 impl<T: Drop> Steady for Numbers<T> {
@@ -56,18 +78,35 @@ impl<T: Drop> Steady for Numbers<T> {
 }
 
 impl<T: Drop> Numbers<T> {
-    ghost use Rattle.seize_parts.specs.Numbers.{AreNumbers, HasTaken, KnowsLeast, TakesNone};
+    ghost use Rattle.std.specs.Prelude.{[], false, slice_set};
+    ghost use Rattle.seize_book.specs.Others.{others_used, rest_of, use_flags};
+    ghost use Rattle.seize_book.specs.Tokens.{IsSole};
+    ghost use Rattle.seize_alone.specs.Events.{MakesAlone};
+    ghost use Rattle.seize_calls.specs.declared.slot.Slot.{Slot as ASlot};
+    ghost use Rattle.seize_machine.specs.declared.machine.event.Answer.{Answer};
+    ghost use Rattle.seize_parts.specs.Numbers.{AreNumbers, AreSlots, HasGathered, HasTaken, KnowsLeast, MayEnd, MayGiveBack, TakesNone};
 
     /// Those of a new list of events, which has no slot yet.
-    pub fn new(alloc: Global, key: NumbersKey, next: NextSlot, book: &Seen) -> Numbers<T>
-        requires key { (numbers_book key ≡ book.now.name) × (made_of key ≡ 0) }
+    pub fn new(
+        alloc: Global,
+        key: NumbersKey,
+        next: NextSlot,
+        book: &Seen,
+        pass: &mut Pass,
+    ) -> Numbers<T>
+        requires key { (numbers_book key ≡ book.now.name) × (made_of key ≡ 0) × (rest_of key ≡ []) }
         requires next { HasNextSlot key next }
-        ensures { AreNumbers result × KnowsLeast result × (result.book.name ≡ book.now.name) }
+        requires pass { pass.old.name ≡ book.now.name }
+        ensures numbers { AreNumbers result × KnowsLeast result × (result.book.name ≡ book.now.name) }
+        ensures pass { pass.new ≡ pass.old }
     {
         Numbers {
             key,
             next: Some(next),
             slots: Vec::new(alloc),
+            free: 0,
+            kept: Vec::new(alloc),
+            rest: Batch::new(pass),
             least: 0,
             shelves: Shelves::new(alloc, book),
             book: book.again(),
@@ -87,7 +126,17 @@ impl<T: Drop> Numbers<T> {
         None
     }
 
-    /// The slot of the least number that is not in use, one that was made before or a new one, and its shelf.
+    /// Whether a number other than this one is in use. It compares two counts.
+    fn others(&self, n: usize) -> bool
+        requires { AreSlots self.now }
+        ensures { result ≡ others_used (use_flags self.now.key) n }
+    {
+        let in_use = self.slots.len() - self.free;
+        let own = n < self.slots.len() && self.slots[n].is_none();
+        if own { in_use > 1 } else { in_use > 0 }
+    }
+
+    /// The slot of the least number that is not in use, one that was made before or a new one, and its shelf. The rest is its batch.
     ///
     /// # Errors
     ///
@@ -97,12 +146,12 @@ impl<T: Drop> Numbers<T> {
         words: &Words<T>,
         alloc: Global,
         pass: &mut Pass,
-    ) -> Result<(Slot<T>, Shelf<T>), Refusal>
+    ) -> Result<Taken<T>, Refusal>
         requires numbers { AreNumbers self.old × (self.old.book.name ≡ words_book words.now) }
         requires least { KnowsLeast self.old }
         requires pass { IsPassFor words.now pass.old }
         ensures numbers { AreNumbers self.new × (self.new.book ≡ self.old.book) × KnowsLeast self.new }
-        ensures made { IfOk result (λ made. HasTaken words.now pass.old pass.new made.0 × IsShelfFor words.now made.1) }
+        ensures made { IfOk result (λ made. HasTaken words.now pass.old pass.new made.slot made.begun × IsShelfFor words.now made.shelf) }
         ensures refused { IfErr result (λ refusal. TakesNone pass.old pass.new refusal) }
     {
         let first = self.first();
@@ -110,42 +159,44 @@ impl<T: Drop> Numbers<T> {
             pass.learn(&self.book);
             return Err(Refusal::NoMemory);
         };
-        let slot = match first {
+        let (slot, begun) = match first {
             Some(n) => self.again(words, n, pass),
-            None => self.make(words, alloc, pass)?,
+            None => (self.make(words, alloc, pass)?, false),
         };
-        Ok((slot, shelf))
+        Ok(Taken { slot, begun, shelf })
     }
 
-    // The slot of number n, which is the least one that is not in use: the number is taken again.
-    fn again(&mut self, words: &Words<T>, n: usize, pass: &mut Pass) -> Slot<T>
-        requires numbers { AreNumbers self.old × (self.old.book.name ≡ words_book words.now) }
+    // The slot of number n, which is the least one that is not in use: the number is taken again. It says whether a call has begun.
+    fn again(&mut self, words: &Words<T>, n: usize, pass: &mut Pass) -> (Slot<T>, bool)
+        requires numbers { AreSlots self.old × (self.old.book.name ≡ words_book words.now) }
         requires pass { IsPassFor words.now pass.old }
         requires first { position is_some self.old.slots.items ≡ Some n }
-        ensures numbers { AreNumbers self.new × (self.new.book ≡ self.old.book) × KnowsLeast self.new }
-        ensures made { HasTaken words.now pass.old pass.new result }
+        ensures numbers { AreSlots self.new × (self.new.book ≡ self.old.book) × KnowsLeast self.new × (rest_of self.new.key ≡ []) }
+        ensures places { (self.new.slots.items ≡ slice_set self.old.slots.items n None) × (self.new.kept ≡ self.old.kept) }
+        ensures made { HasTaken words.now pass.old pass.new result.0 result.1 × (its_number result.0 ≡ n) }
     {
         let Some(mut slot) = self.slots[n].take() else {
             unreachable!()
         };
-        slot.take_again(words, &mut self.key, pass);
+        let begun = slot.take_again(words, &mut self.key, &mut self.rest, pass);
+        self.free -= 1;
         self.least = n + 1;
-        slot
+        (slot, begun)
     }
 
     // A new slot, with the number after all others. Its place in the list is made first, so that no slot is made without one. A list has
-    // fewer than 2^63 places, so the 2^64 - 32 numbers never run out.
+    // fewer than 2^63 places, so the 2^64 - 32 numbers never run out. While all numbers are in use, nothing is left.
     fn make(&mut self, words: &Words<T>, alloc: Global, pass: &mut Pass) -> Result<Slot<T>, Refusal>
         requires numbers { AreNumbers self.old × (self.old.book.name ≡ words_book words.now) }
         requires pass { IsPassFor words.now pass.old }
         requires taken { position is_some self.old.slots.items ≡ None }
         requires least { KnowsLeast self.old }
         ensures numbers { AreNumbers self.new × (self.new.book ≡ self.old.book) × KnowsLeast self.new }
-        ensures made { IfOk result (λ slot. HasTaken words.now pass.old pass.new slot) }
+        ensures made { IfOk result (λ slot. HasTaken words.now pass.old pass.new slot false) }
         ensures refused { IfErr result (λ refusal. TakesNone pass.old pass.new refusal) }
     {
         pass.learn(&self.book);
-        if self.slots.reserve(1).is_err() {
+        if self.slots.reserve(1).is_err() || self.kept.reserve(1).is_err() {
             return Err(Refusal::NoMemory);
         }
         let Some(next) = self.next.take() else {
@@ -155,6 +206,7 @@ impl<T: Drop> Numbers<T> {
             Ok((slot, next)) => {
                 self.next = Some(next);
                 self.slots.push_reserved(None);
+                self.kept.push_reserved(None);
                 self.least = self.slots.len();
                 Ok(slot)
             }
@@ -164,128 +216,77 @@ impl<T: Drop> Numbers<T> {
             }
         }
     }
+
+    // The number of the slot goes back, and its batch joins the rest.
+    fn give(&mut self, words: &Words<T>, slot: Slot<T>, pass: &mut Pass)
+        requires numbers { AreSlots self.old × (self.old.book.name ≡ words_book words.now) }
+        requires pass { IsPassFor words.now pass.old }
+        requires slot { MayEnd words.now slot × MayGiveBack self.old slot }
+        ensures numbers { AreSlots self.new × (self.new.book ≡ self.old.book) × (self.new.kept ≡ self.old.kept) }
+        ensures least { KnowsLeast self.old → KnowsLeast self.new }
+        ensures place { (s : ASlot T) × (self.new.slots.items ≡ slice_set self.old.slots.items (its_number slot) (Some s)) }
+        ensures gives { MakesOne pass.old pass.new (Give (its_number slot)) Done }
+        ensures alone { IsSole pass.old.id → (answer : Answer) × MakesAlone pass.old pass.new (Give (its_number slot)) answer }
+    {
+        let mut slot = slot;
+        let n = slot.number();
+        slot.give(words, &mut self.key, &mut self.rest, pass);
+        self.slots[n] = Some(slot);
+        self.free += 1;
+        self.least = min(self.least, n);
+    }
+
+    /// The number of the slot goes back, where another slot is in use or nothing is left. Else the slot begins to gather, and comes back.
+    pub fn end(&mut self, words: &Words<T>, slot: Slot<T>, pass: &mut Pass) -> Option<Slot<T>>
+        requires numbers { AreNumbers self.old × (self.old.book.name ≡ words_book words.now) × KnowsLeast self.old }
+        requires pass { IsPassFor words.now pass.old }
+        requires slot { MayEnd words.now slot }
+        ensures numbers { AreNumbers self.new × (self.new.book ≡ self.old.book) × KnowsLeast self.new }
+        ensures gives { IfNone result (MakesOne pass.old pass.new (Give (its_number slot)) Done) }
+        ensures alone { IfNone result (IsSole pass.old.id
+            → (answer : Answer) × MakesAlone pass.old pass.new (Give (its_number slot)) answer) }
+        ensures gathers { IfSome result (λ begun. HasGathered words.now slot pass.old begun pass.new) }
+    {
+        if self.others(slot.number()) || slot.leaves_nothing(&self.rest) {
+            self.give(words, slot, pass);
+            return None;
+        }
+        let mut slot = slot;
+        slot.gather(words, &mut self.key, &mut self.rest, pass);
+        Some(slot)
+    }
 }
 
 impl<T: Drop> Numbers<T> {
-    ghost use Rattle.std.specs.Prelude.{IfSome, false};
-    ghost use Rattle.seize_alone.specs.Events.{MakesAlone};
-    ghost use Rattle.seize_book.specs.Homesteads.{state_seen};
     ghost use Rattle.seize_book.specs.Passes.{IsSamePass};
     ghost use Rattle.seize_book.specs.Tokens.{IsSole};
     ghost use Rattle.seize_calls.specs.Slots.{IsInactive, IsSlotOf};
-    ghost use Rattle.seize_machine.specs.Machine.State.{head_at, is_active};
-    ghost use Rattle.seize_machine.specs.declared.machine.event.Answer.{Answer};
-    ghost use Rattle.seize_parts.specs.Numbers.{AreNumbers, IsLockFor, KnowsLeast, MayEnd};
-    ghost use Rattle.seize_parts.specs.Reservations.{IsReservation, IsReservationOf};
+    ghost use Rattle.seize_parts.specs.Enders.{IsEnderOf};
+    ghost use Rattle.seize_parts.specs.Numbers.{AreNumbers, IsLockFor, KnowsLeast};
 
-    /// The slot of the least number that is not in use, where there is one: the number is taken again. No slot is made.
+    /// The slot of the least number that is not in use, where there is one, by a pass that is alone: the number is taken again, and what
+    /// slots left is attempted, where it is enough. No slot is made.
     ///
-    /// It takes no memory and waits for nobody.
-    pub(crate) fn take_free(&mut self, words: &Words<T>, pass: &mut Pass) -> Option<Slot<T>>
+    /// It takes no memory and waits for nobody, but for what the reclaimer does.
+    pub(crate) fn take_free<R: Reclaim<T>>(
+        &mut self,
+        words: &Words<T>,
+        ender: &Ender<T, R>,
+        pass: &mut Pass,
+    ) -> Option<Slot<T>>
         requires numbers { AreNumbers self.old × IsLockFor words.now self.old × KnowsLeast self.old }
-        requires pass { IsPassFor words.now pass.old }
+        requires pass { IsPassFor words.now pass.old × IsSole pass.old.id }
+        requires ender { IsEnderOf words.now ender.now }
         ensures numbers { AreNumbers self.new × IsLockFor words.now self.new }
         ensures same { IsSamePass pass.old pass.new }
         ensures taken { IfSome result (λ slot. IsSlotOf words.now slot × IsInactive slot) }
     {
         self.book.agree(&words.blocks.book);
         let n = self.first()?;
-        Some(self.again(words, n, pass))
-    }
-
-    // The number of the slot goes back.
-    fn end(&mut self, words: &Words<T>, slot: Slot<T>, pass: &mut Pass)
-        requires numbers { AreNumbers self.old × (self.old.book.name ≡ words_book words.now) × KnowsLeast self.old }
-        requires pass { IsPassFor words.now pass.old }
-        requires slot { MayEnd words.now slot }
-        ensures numbers { AreNumbers self.new × (self.new.book ≡ self.old.book) × KnowsLeast self.new }
-        ensures gives { MakesOne pass.old pass.new (Give (its_number slot)) Done }
-        ensures alone { IsSole pass.old.id → (answer : Answer) × MakesAlone pass.old pass.new (Give (its_number slot)) answer }
-    {
-        let mut slot = slot;
-        slot.give(words, &mut self.key, pass);
-        let n = slot.number();
-        self.slots[n] = Some(slot);
-        self.least = lower(self.least, n);
-    }
-
-    /// The number of the slot in this reservation goes back, by a pass that is alone. The slot is inactive, as the pass has seen. It takes
-    /// no memory and waits for nobody.
-    pub fn free(&mut self, words: &Words<T>, r: Reservation<T>, pass: &mut Pass)
-        requires numbers { AreNumbers self.old × (self.old.book.name ≡ words_book words.now) × KnowsLeast self.old }
-        requires pass { IsPassFor words.now pass.old × IsSole pass.old.id }
-        requires r { IsReservation r × IsReservationOf words.now r }
-        requires off { is_active (head_at (state_seen pass.old) (its_number r.slot)) ≡ false }
-        ensures numbers { AreNumbers self.new × (self.new.book ≡ self.old.book) × KnowsLeast self.new }
-        ensures gives { (answer : Answer) × MakesAlone pass.old pass.new (Give (its_number r.slot)) answer }
-    {
-        let Reservation { mut slot, .. } = r;
-        slot.seen().agree(&words.blocks.book);
-        slot.look(words, pass);
-        self.end(words, slot, pass);
-    }
-}
-
-/// A slot is taken: the work of a registration.
-#[derive(Drop)]
-pub struct Registering<'a, T> {
-    /// The words of the collector.
-    pub words: &'a Words<T>,
-    /// Where a new slot takes its memory.
-    pub alloc: Global,
-}
-
-impl<'a, 'p, T: Drop> LockWork<Numbers<T>, Pass<'p>, Result<(Slot<T>, Shelf<T>), Refusal>>
-    for Registering<'a, T> {
-    ghost use Rattle.seize_parts.specs.Numbers.{HasTaken, IsLockFor, TakesNone};
-
-    ghost may = { λ work numbers pass. IsLockFor work.words.now numbers × IsPassFor work.words.now pass };
-
-    ghost gives = { λ work numbers numbers' pass pass' result.
-        IfOk result (λ made. HasTaken work.words.now pass pass' made.0 × IsShelfFor work.words.now made.1)
-        × IfErr result (λ refusal. TakesNone pass pass' refusal) };
-
-    fn work(
-        self,
-        numbers: &mut Numbers<T>,
-        pass: &mut Pass<'p>,
-    ) -> Result<(Slot<T>, Shelf<T>), Refusal> {
-        numbers.book.agree(&self.words.blocks.book);
-        numbers.take(self.words, self.alloc, pass)
-    }
-}
-
-// The lower of two numbers.
-fn lower(a: usize, b: usize) -> usize
-    ensures { (result ≤ a) × (result ≤ b) }
-{
-    if a < b { a } else { b }
-}
-
-/// A slot goes back: the work at the end of a registration.
-#[derive(Drop)]
-pub struct Ending<'a, T> {
-    /// The words of the collector.
-    pub words: &'a Words<T>,
-    /// The slot, which is inactive.
-    pub slot: Slot<T>,
-}
-
-impl<'a, 'p, T: Drop> LockWork<Numbers<T>, Pass<'p>, ()> for Ending<'a, T> {
-    ghost use Rattle.seize_book.specs.Tokens.{IsSole};
-    ghost use Rattle.seize_machine.specs.declared.machine.event.Answer.{Answer};
-    ghost use Rattle.seize_alone.specs.Events.{MakesAlone};
-    ghost use Rattle.seize_parts.specs.Numbers.{IsLockFor, MayEnd};
-
-    ghost may = { λ work numbers pass. IsLockFor work.words.now numbers × IsPassFor work.words.now pass
-        × MayEnd work.words.now work.slot };
-
-    ghost gives = { λ work numbers numbers' pass pass' result. MakesOne pass pass' (Give (its_number work.slot)) Done
-        × (IsSole pass.id → (answer : Answer) × MakesAlone pass pass' (Give (its_number work.slot)) answer) };
-
-    fn work(self, numbers: &mut Numbers<T>, pass: &mut Pass<'p>) {
-        let Ending { words, slot } = self;
-        numbers.book.agree(&words.blocks.book);
-        numbers.end(words, slot, pass);
+        let (mut slot, begun) = self.again(words, n, pass);
+        if begun {
+            slot.resume(words, &mut Forwards::new(ender), pass, &Alone {});
+        }
+        Some(slot)
     }
 }

@@ -93,12 +93,13 @@ fn the_collector_of_a_guard_equals_its_own_alone(rt: HostRuntime) -> Result<(), 
     Ok(())
 }
 
-// Retires a value, which was in no link, under a guard that leaves then. It says how often it had ended before that, and after.
+// Retires a value, which was in no link, under a guard that leaves then, and its registration ends. It says how often it had ended before
+// that, between, and after.
 fn retire_one<'a>(
     rt: &(impl Wait + Abort),
     collector: &Collector<Counted<'a>>,
     ends: &'a AtomicU64,
-) -> Option<(u64, u64)> {
+) -> Option<[u64; 3]> {
     let mut pass = collector.pass();
     let block = collector.owned(Counted { ends }).ok()?;
     let registration = collector.register(rt, &mut pass).expect(rt, "memory");
@@ -106,20 +107,20 @@ fn retire_one<'a>(
     guard.defer_retire(rt, &mut pass, Unlinked::from_owned(block, collector));
     let before = ended(ends);
     guard.leave(rt, &mut pass);
-    let after = ended(ends);
+    let between = ended(ends);
     assert!(rt; registration.end(rt, &mut pass));
-    Some((before, after))
+    Some([before, between, ended(ends)])
 }
 
 // A batch size of 0 serves as 1: a value that is retired alone waits for the guard, and ends when that leaves. With a batch size of 2 it
-// stays in the batch, and ends with the collector.
+// stays in the batch, and ends as the registration does, which is the last one.
 #[test]
 fn a_batch_size_of_0_serves_as_1(rt: HostRuntime) -> Result<(), Fail> {
-    for (size, after) in [(0, 1), (1, 1), (2, 0)] {
+    for (size, between) in [(0, 1), (1, 1), (2, 0)] {
         let ends = AtomicU64::new(0);
         let made: Collector<Counted<'_>> = Collector::new(rt.alloc(), &mut IdSource::new(), 1, 0)?;
         let collector = made.batch_size(size);
-        assert_eq!(rt; retire_one(&rt, &collector, &ends), Some((0, after)));
+        assert_eq!(rt; retire_one(&rt, &collector, &ends), Some([0, between, 1]));
         drop(collector);
         assert_eq!(rt; ended(&ends), 1);
     }

@@ -5,10 +5,11 @@ ghost use Rattle.seize.specs.Collectors.{IsBlockOf, IsPassOf, its_links};
 ghost use Rattle.seize.specs.Guards.{guard_collector};
 ghost use Rattle.seize.specs.Registrations.{registered_in};
 
-use seize::{Collector, Guard, IdSource, LocalGuard, Owned, Pass, Refusal, Registration};
+use seize::{Collector, Guard, IdSource, LocalGuard, Owned, Pass, Refusal, Registration, Unlinked};
 use seize_test_kit::sign::give_sign;
 use seize_test_kit::values::{Counted, ended};
 use std::alloc::Global;
+use std::process::Abort;
 use std::sync::Wait;
 use std::sync::atomic::AtomicU64;
 use std::test::*;
@@ -152,5 +153,114 @@ fn calls_that_ask_for_no_memory(rt: HostRuntime) -> Result<(), Fail> {
     assert_eq!(rt; ended(&ends), 31);
     drop(collector);
     assert_eq!(rt; ended(&ends), BLOCKS);
+    Ok(())
+}
+
+// A collector with no link, and batches of two values.
+fn unlinked<'a>(alloc: Global) -> Result<Collector<Counted<'a>>, Refusal> {
+    let made: Collector<Counted<'a>> = Collector::new(alloc, &mut IdSource::new(), 1, 0)?;
+    Ok(made.batch_size(2))
+}
+
+// Four blocks.
+#[derive(Drop)]
+struct Four<'a> {
+    first: Owned<Counted<'a>>,
+    second: Owned<Counted<'a>>,
+    third: Owned<Counted<'a>>,
+    fourth: Owned<Counted<'a>>,
+}
+
+// The collector's.
+fn make_four<'a>(
+    collector: &Collector<Counted<'a>>,
+    ends: &'a AtomicU64,
+) -> Result<Four<'a>, Refusal>
+    ensures { IfOk result (λ made. IsBlockOf collector.now made.first × IsBlockOf collector.now made.second
+        × IsBlockOf collector.now made.third × IsBlockOf collector.now made.fourth) }
+{
+    Ok(Four {
+        first: new(collector, ends)?,
+        second: new(collector, ends)?,
+        third: new(collector, ends)?,
+        fourth: new(collector, ends)?,
+    })
+}
+
+// One.
+fn new<'a>(
+    collector: &Collector<Counted<'a>>,
+    ends: &'a AtomicU64,
+) -> Result<Owned<Counted<'a>>, Refusal>
+    ensures { IfOk result (IsBlockOf collector.now) }
+{
+    match collector.owned(Counted { ends }) {
+        Ok(block) => Ok(block),
+        Err((refusal, _)) => Err(refusal),
+    }
+}
+
+// Three slots are in use, and the sign is given. Two of them retire a value each, and end; a number is taken, by which both end. Its slot
+// retires the third value and ends. An owned guard takes that and leaves it. At last the third slot retires one, and ends. It says how many
+// values had ended when two slots had, when the number was taken, before the last end, and after it.
+fn hand_on<'a>(
+    rt: &(impl Wait + Abort),
+    alloc: Global,
+    collector: &Collector<Counted<'a>>,
+    blocks: Four<'a>,
+    ends: &'a AtomicU64,
+) -> [u64; 4]
+    requires first { IsBlockOf collector.now blocks.first × IsBlockOf collector.now blocks.second }
+    requires second { IsBlockOf collector.now blocks.third × IsBlockOf collector.now blocks.fourth }
+{
+    let Four {
+        first,
+        second,
+        third,
+        fourth,
+    } = blocks;
+    let mut pass = collector.pass();
+    let one = collector.register(rt, &mut pass).expect(rt, "memory");
+    let two = collector.register(rt, &mut pass).expect(rt, "memory");
+    let last = collector.register(rt, &mut pass).expect(rt, "memory");
+    assert!(rt; give_sign(alloc).is_ok());
+    one.retire(rt, &mut pass, Unlinked::from_owned(first, collector));
+    assert!(rt; one.end(rt, &mut pass));
+    two.retire(
+        rt,
+        &mut collector.pass(),
+        Unlinked::from_owned(second, collector),
+    );
+    assert!(rt; two.end(rt, &mut collector.pass()));
+    let left = ended(ends);
+    let mut its = collector.pass();
+    let again = collector.register(rt, &mut its).expect(rt, "memory");
+    let taken = ended(ends);
+    again.retire(rt, &mut its, Unlinked::from_owned(third, collector));
+    assert!(rt; again.end(rt, &mut its));
+    let mut its = collector.pass();
+    let guard = collector.enter_owned(rt, &mut its).expect(rt, "memory");
+    guard.leave(rt, &mut its);
+    last.retire(
+        rt,
+        &mut collector.pass(),
+        Unlinked::from_owned(fourth, collector),
+    );
+    let before = ended(ends);
+    assert!(rt; last.end(rt, &mut collector.pass()));
+    [left, taken, before, ended(ends)]
+}
+
+// A slot that ends hands its batch on, whoever takes it attempts what is full, and the last one attempts what is left: none of these calls
+// asks for memory.
+#[test]
+fn slots_hand_on_without_memory(rt: HostRuntime) -> Result<(), Fail> {
+    let ends = AtomicU64::new(0);
+    let mut collector = unlinked(rt.alloc())?;
+    let blocks = make_four(&collector, &ends)?;
+    let came = hand_on(&rt, rt.alloc(), &collector, blocks, &ends);
+    assert_eq!(rt; came, [0, 2, 2, 4]);
+    assert!(rt; collector.reclaim_all(&mut ()));
+    assert_eq!(rt; ended(&ends), 4);
     Ok(())
 }

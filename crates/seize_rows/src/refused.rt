@@ -158,11 +158,11 @@ fn leave_twice(
 ) -> Result<(), Refusal> {
     alone.leave(0, &mut ())?;
     assert_eq!(rt; told.load(Ordering::SeqCst), 0);
-    assert!(rt; !alone.end(0)?);
+    assert!(rt; !alone.end(0, &mut ())?);
     alone.leave(0, &mut ())?;
     assert_eq!(rt; told.load(Ordering::SeqCst), digits);
-    assert!(rt; alone.end(0)?);
-    assert_eq!(rt; alone.register()?, 0);
+    assert!(rt; alone.end(0, &mut ())?);
+    assert_eq!(rt; alone.register(&mut ())?, 0);
     Ok(())
 }
 

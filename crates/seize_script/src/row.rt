@@ -27,6 +27,17 @@ const LINKS: &str =
 const LEFT: &str =
     "size 3 links 0; register; retire 0 a; end 0; tick; owned; retire 0 b; retire 0 c; tick; leave 0";
 
+const REST: &str =
+    "size 3 links 0; register; register; retire 0 a; end 0; retire 1 b; register; retire 0 c; end 1; tick; end 0";
+
+const TAKEN: &str =
+    "size 2 links 0; register; register; register; retire 0 a; end 0; retire 1 b; end 1; tick; register";
+
+const LAST: &str = "size 4 links 0; register; tick; retire 0 p(q(s),r); end 0";
+
+const HELD: &str =
+    "size 2 links 0; register; register; enter 1; retire 0 a; end 0; end 1; register; end 0; tick; all";
+
 // the beginnings and ends of rows that retire numbered values in between
 const GUARDED: &str = "size 5 links 0; register; enter 0";
 
@@ -59,6 +70,10 @@ pub fn script_of(alloc: Global, name: &str) -> Result<Option<String>, AllocError
         "many" => many(&mut script)?,
         "crowd" => crowd(&mut script)?,
         "left" => lines(&mut script, LEFT)?,
+        "rest" => lines(&mut script, REST)?,
+        "taken" => lines(&mut script, TAKEN)?,
+        "last" => lines(&mut script, LAST)?,
+        "held" => lines(&mut script, HELD)?,
         _ => return Ok(None),
     }
     Ok(Some(script))

@@ -83,23 +83,43 @@ numbers_distinct (x ∷ xs) h = (apart xs h.0, numbers_distinct xs h.1)
     apart [] a = tt
     apart (y ∷ ys) a = (sym (flips x y) ∙ a.0, apart ys a.1)
 
-members_flip : (free : List (Reverse ℕ)) (q : ℕ) → list_any (nat_eq q) (map (λ (r : Reverse ℕ). r.0) free) ≡ is_in_heap free q
+pub members_flip : (free : List (Reverse ℕ)) (q : ℕ) → list_any (nat_eq q) (map (λ (r : Reverse ℕ). r.0) free) ≡ is_in_heap free q
 members_flip [] q = refl
 members_flip (x ∷ xs) q = ap (λ (b : Bool). b || list_any (nat_eq q) (map (λ (r : Reverse ℕ). r.0) xs)) (flips x record { 0 = q }) ∙ ap (λ (b : Bool). nat_eq x.0 q || b) (members_flip xs q)
 
-length-numbers : (free : List (Reverse ℕ)) → length (map (λ (r : Reverse ℕ). r.0) free) ≡ length free
+pub length-numbers : (free : List (Reverse ℕ)) → length (map (λ (r : Reverse ℕ). r.0) free) ≡ length free
 length-numbers [] = refl
 length-numbers (x ∷ xs) = ap suc (length-numbers xs)
 
--- the heap has fewer numbers than were made, while one that was made isn't in it
+-- numbers that were made, each listed once, are no more than were made
+no_more : (made : ℕ) (xs : List (Reverse ℕ)) → IsDistinct (λ (x y : Reverse ℕ). nat_eq y.0 x.0) xs → ((q : ℕ) → is_in_heap xs q ≡ true → q < made) → length xs ≤ made
+no_more made xs once below =
+    let few = length-le_from_distinct_below (map (λ (r : Reverse ℕ). r.0) xs) made (numbers_distinct xs once) (λ q h. below q (sym (members_flip xs q) ∙ h)) in
+    let len = length-numbers xs in
+    omega arith
+
+one_more : (n : ℕ) (xs : List (Reverse ℕ)) → IsDistinct (λ (x y : Reverse ℕ). nat_eq y.0 x.0) xs → is_in_heap xs n ≡ false → IsDistinct (λ (x y : Reverse ℕ). nat_eq y.0 x.0) (record { 0 = n } ∷ xs)
+one_more n xs once none = IsDistinct-cons (λ (x y : Reverse ℕ). nat_eq y.0 x.0) record { 0 = n } xs (all_apart record { 0 = n } xs none) once
+
+one_more_below : (made n : ℕ) (xs : List (Reverse ℕ)) → ((q : ℕ) → is_in_heap xs q ≡ true → q < made) → n < made → (q : ℕ) → is_in_heap (record { 0 = n } ∷ xs) q ≡ true → q < made
+one_more_below made n xs each below q h = elim (or_cases (nat_eq n q) (is_in_heap xs q) h) [ inl e ↦ subst (λ k. k < made) (eqb-true n q e) below | inr f ↦ each q f ]
+
+-- the heap has no more numbers than were made
+pub at_most : (made room : ℕ) (free : List (Reverse ℕ)) → IsRoomy made free room → length free ≤ made
+at_most made room free roomy = no_more made free roomy.once roomy.below
+
+-- it has fewer, while one that was made isn't in it
 pub fewer : (made room : ℕ) (free : List (Reverse ℕ)) (n : ℕ) → IsRoomy made free room → n < made → is_in_heap free n ≡ false → length free < made
 fewer made room free n roomy below none =
-    let all : List (Reverse ℕ) = record { 0 = n } ∷ free in
-    let distinct = numbers_distinct all (IsDistinct-cons (λ (x y : Reverse ℕ). nat_eq y.0 x.0) record { 0 = n } free (all_apart record { 0 = n } free none) roomy.once) in
-    let each : (q : ℕ) → list_any (nat_eq q) (map (λ (r : Reverse ℕ). r.0) all) ≡ true → q < made
-    = λ q h. elim (or_cases (nat_eq n q) (is_in_heap free q) (sym (members_flip all q) ∙ h)) [ inl e ↦ subst (λ k. k < made) (eqb-true n q e) below | inr f ↦ roomy.below q f ] in
-    let few = length-le_from_distinct_below (map (λ (r : Reverse ℕ). r.0) all) made distinct each in
-    let len = length-numbers all in
+    let few = no_more made (record { 0 = n } ∷ free) (one_more n free roomy.once none) (one_more_below made n free roomy.below below) in
+    omega arith
+
+-- it has two fewer, while two that were made aren't in it
+pub fewer_by_two : (made room : ℕ) (free : List (Reverse ℕ)) (m n : ℕ) → IsRoomy made free room → m < made → is_in_heap free m ≡ false → n < made → is_in_heap free n ≡ false → (m ≡ n → ⊥) → length free + 1 < made
+fewer_by_two made room free m n roomy m_below no_m n_below no_n apart =
+    let both : List (Reverse ℕ) = record { 0 = n } ∷ free in
+    let none : is_in_heap both m ≡ false = or_from (nat_eq n m) (is_in_heap free m) (ne_eqb n m (λ e. apart (sym e))) no_m in
+    let few = no_more made (record { 0 = m } ∷ both) (one_more m both (one_more n free roomy.once no_n) none) (one_more_below made m both (one_more_below made n free roomy.below n_below) m_below) in
     omega arith
 
 module _ (made : ℕ) (free rest : List (Reverse ℕ)) (n : Reverse ℕ) (moved : IsPermutation free (n ∷ rest)) where

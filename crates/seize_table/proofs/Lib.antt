@@ -3,6 +3,7 @@ pub mod Entries
 pub mod FreeNumbers
 pub mod Kit
 pub mod Meanings
+pub mod OtherNumbers
 pub mod Pairs
 pub mod Places
 pub mod Sharing

@@ -1,6 +1,6 @@
 //! The numbers of slots: where each lies in a table, and which of them are in use. It uses `refusal` alone; the table and the
 //! collector stand on it.
-ghost use Rattle.std.specs.Prelude.{◌≡◌, ℕ, true, ◌+◌, ◌^◌, ◌<◌, ◌≤◌, ◌↔◌, IsNone, IfSome, IfOk, IfErr, OnErr, Err, ◌⊎◌, sum};
+ghost use Rattle.std.specs.Prelude.{◌≡◌, ◌≢◌, ℕ, true, ◌+◌, ◌^◌, ◌<◌, ◌≤◌, ◌↔◌, IsNone, IfSome, IfOk, IfErr, OnErr, Err, ◌⊎◌, sum};
 ghost use Rattle.std.specs.FinSet as set;
 ghost use Rattle.seize_table.specs.Place.{IsPlace, OnePlace, OneNumber, capacities};
 ghost use Rattle.seize_table.specs.Free.{Least};
@@ -165,5 +165,26 @@ impl Numbers {
             Ok(()) => {}
             Err(_) => unreachable!(),
         }
+    }
+
+    /// Whether a number other than `n` is in use. `n` may be any number, in use or not, also one that was never taken.
+    ///
+    /// It takes no memory. It compares two counts; only where exactly one number is in use it may look through the free ones.
+    pub fn others(&self, n: usize) -> bool
+        ensures { (result ≡ true) ↔ ((m : ℕ) × (m ≢ n) × (set.contains self.now m ≡ true)) }
+    {
+        let in_use = self.made - self.free.len();
+        if in_use == 1 {
+            !self.has(n)
+        } else {
+            in_use > 1
+        }
+    }
+
+    // Whether the number is in use. It may look through all that are free.
+    fn has(&self, number: usize) -> bool
+        ensures { result ≡ set.contains self.now number }
+    {
+        number < self.made && !self.free.as_slice().contains(&Reverse(number))
     }
 }

@@ -94,6 +94,37 @@ fn numbers_are_used_again(rt: HostRuntime) -> Result<(), Fail> {
     Ok(())
 }
 
+// Whether numbers other than 0, 1, 2 and the greatest of the type are in use.
+fn others(numbers: &Numbers) -> (bool, bool, bool, bool) {
+    (
+        numbers.others(0),
+        numbers.others(1),
+        numbers.others(2),
+        numbers.others(usize::MAX),
+    )
+}
+
+#[test]
+fn others_are_in_use_or_not(rt: HostRuntime) -> Result<(), Fail> {
+    let mut numbers = Numbers::new(rt.alloc());
+    assert_eq!(rt; others(&numbers), (false, false, false, false));
+    let first = numbers.take()?;
+    assert_eq!(rt; others(&numbers), (false, true, true, true));
+    let second = numbers.take()?;
+    assert_eq!(rt; others(&numbers), (true, true, true, true));
+    let third = numbers.take()?;
+    assert_eq!(rt; (first, second, third), (0, 1, 2));
+    numbers.give(first);
+    assert_eq!(rt; others(&numbers), (true, true, true, true));
+    numbers.give(third);
+    assert_eq!(rt; others(&numbers), (true, false, true, true));
+    numbers.give(second);
+    assert_eq!(rt; others(&numbers), (false, false, false, false));
+    assert_eq!(rt; numbers.take()?, 0);
+    assert_eq!(rt; others(&numbers), (false, true, true, true));
+    Ok(())
+}
+
 fn at(rt: &impl Abort, id: usize) -> Thread {
     Thread::new(id).expect(rt, "a number with a place")
 }

@@ -177,8 +177,7 @@ fn four_threads_add_by_exchanges(rt: HostRuntime) -> Result<(), Fail> {
     assert_eq!(rt; (tried.won, tried.odd), (4 * TURNS, 0));
     assert!(rt; tried.lost <= 3 * tried.won);
     assert_eq!(rt; read(&rt, &collector)?, Some(4 * TURNS));
-    let (_, more) = ended(marks.as_slice());
-    assert_eq!(rt; more, 0);
+    assert_eq!(rt; ended(marks.as_slice()), (4 * TURNS, 0));
     drop(collector);
     assert_eq!(rt; ended(marks.as_slice()), (1 + 4 * TURNS, 0));
     Ok(())

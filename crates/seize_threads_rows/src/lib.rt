@@ -1,5 +1,5 @@
-//! Tests of guards on threads: what readers see while others swap, exchange, retire and refresh. They stand in a crate of their own, so
-//! that they are proved beside the other tests of the collector.
+//! Tests of guards on threads: what readers see while others swap, exchange, retire and refresh; and of threads that register while a
+//! reclaimer runs. They stand in a crate of their own, so that they are proved beside the other tests of the collector.
 #![tactic(auto)]
 
 #[cfg(test)]
@@ -22,6 +22,8 @@ mod staying;
 mod sums;
 #[cfg(test)]
 mod swapping;
+#[cfg(test)]
+mod taking;
 #[cfg(test)]
 mod turned;
 #[cfg(test)]

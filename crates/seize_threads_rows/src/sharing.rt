@@ -63,8 +63,8 @@ fn four<'a, R: Threads + Wait + Sync>(
     Ok((a?.and(b?), c?.and(d?)))
 }
 
-// Four threads swap values through one link and retire them. No value ended while a guard stood that had found it. Each ended at most once,
-// and with the collector each ended.
+// Four threads swap values through one link and retire them. No value ended while a guard stood that had found it. When all
+// registrations have ended each has ended once, but for the linked one, which ends with the collector.
 #[test]
 fn four_threads_end_each_value_once(rt: HostRuntime) -> Result<(), Fail> {
     let marks = marks(rt.alloc(), 4 * TURNS)?;
@@ -73,8 +73,7 @@ fn four_threads_end_each_value_once(rt: HostRuntime) -> Result<(), Fail> {
     let all = one.and(other);
     assert_eq!(rt; all.early, 0);
     assert_eq!(rt; all.retired, 4 * TURNS - 1);
-    let (_, more) = ended(marks.as_slice());
-    assert_eq!(rt; more, 0);
+    assert_eq!(rt; ended(marks.as_slice()), (4 * TURNS - 1, 0));
     drop(collector);
     assert_eq!(rt; ended(marks.as_slice()), (4 * TURNS, 0));
     Ok(())

@@ -106,8 +106,8 @@ fn read<'a, R: Threads + Wait + Sync>(
     saw
 }
 
-// A reader finds a value, and stays while two threads retire 100,000. It reads the value still, which has not ended. That ends when the
-// reader leaves, and with the collector each value has ended once.
+// A reader finds a value, and stays while two threads retire 100,000. It reads the value still, which has not ended. When the last
+// registration has ended, each value has ended once, but for the linked one, which ends with the collector.
 #[test]
 fn a_value_lasts_while_its_reader_stays(rt: HostRuntime) -> Result<(), Fail> {
     let marks = marks(rt.alloc(), 1 + 2 * TURNS)?;
@@ -115,6 +115,7 @@ fn a_value_lasts_while_its_reader_stays(rt: HostRuntime) -> Result<(), Fail> {
     let saw = read(&rt, &collector, marks.as_slice())?;
     assert_eq!(rt; (saw.value, saw.ends), (Some(0), 0));
     assert_eq!(rt; (saw.others.early, saw.others.retired), (0, 2 * TURNS));
+    assert_eq!(rt; ended(marks.as_slice()), (2 * TURNS, 0));
     assert_eq!(rt; ends_of(marks.as_slice(), 0), 1);
     drop(collector);
     assert_eq!(rt; ended(marks.as_slice()), (1 + 2 * TURNS, 0));

@@ -142,14 +142,15 @@ fn five<'a, R: Threads + Wait + Sync>(
 }
 
 // Four threads read the link a thousand times, each time with an owned guard of their own, while a fifth one swaps a thousand values
-// through it. No value ends while a guard stands that has found it. When all is reclaimed each has ended once, but for the last one, which
-// is linked and ends with the collector.
+// through it. No value ends while a guard stands that has found it. When all guards have left each has ended once, but for the last one,
+// which is linked and ends with the collector. So nothing is left to reclaim.
 #[test]
 fn four_threads_read_while_a_fifth_swaps(rt: HostRuntime) -> Result<(), Fail> {
     let marks = marks(rt.alloc(), TURNS)?;
     let mut collector = collector(rt.alloc())?;
     let seen = five(&rt, &collector, marks.as_slice())?;
     assert_eq!(rt; seen, (0, TURNS - 1));
+    assert_eq!(rt; ended(marks.as_slice()), (TURNS - 1, 0));
     assert!(rt; collector.reclaim_all(&mut ()));
     assert_eq!(rt; ended(marks.as_slice()), (TURNS - 1, 0));
     assert_eq!(rt; ends_of(marks.as_slice(), TURNS - 1), 0);

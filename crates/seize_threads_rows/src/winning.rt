@@ -180,8 +180,7 @@ fn one_of_four_exchanges_is_won(rt: HostRuntime) -> Result<(), Fail> {
     };
     assert_eq!(rt; tried, wanted);
     assert_eq!(rt; read(&rt, &collector)?, Some(ROUNDS));
-    let (_, more) = ended(marks.as_slice());
-    assert_eq!(rt; more, 0);
+    assert_eq!(rt; ended(marks.as_slice()), (4 * ROUNDS, 0));
     drop(collector);
     assert_eq!(rt; ended(marks.as_slice()), (1 + 4 * ROUNDS, 0));
     Ok(())

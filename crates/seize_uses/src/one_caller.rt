@@ -17,7 +17,7 @@ pub fn read_and_retire(alloc: Global, number: u64) -> Result<Option<u64>, Refusa
     ensures { IfOk result (λ read. read ≡ Some number) }
 {
     let mut alone = Alone::new(alloc, &mut IdSource::new(), 1, 1)?;
-    let slot = alone.register()?;
+    let slot = alone.register(&mut ())?;
     alone.enter(slot)?;
     let block = alone.owned(number).map_err(|(refusal, _)| refusal)?;
     replace(&mut alone, slot, Some(block))?;

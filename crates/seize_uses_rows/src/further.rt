@@ -74,6 +74,40 @@ fn retire<W: Wait>(rt: &W, collector: &Nests<'_>, block: Block) -> Result<(), Re
     Ok(())
 }
 
+// A registration retires the block, and is forgotten.
+fn retire_and_forget<W: Wait>(rt: &W, collector: &Nests<'_>, block: Block) -> Result<(), Refusal>
+    requires { BelongsTo nest_owners collector.now block }
+{
+    let mut pass = collector.pass();
+    let registration = collector.register(rt, &mut pass)?;
+    let block = Unlinked::from_owned(block, collector);
+    registration.retire(rt, &mut pass, block);
+    registration.forget();
+    Ok(())
+}
+
+// One registration after another retires a block, and ends, beside a third one, which ends then. It says how many values had ended before
+// that.
+fn retire_beside<W: Wait>(
+    rt: &W,
+    collector: &Nests<'_>,
+    first: Block,
+    second: Block,
+    by: PutInside<'_>,
+) -> Result<u64, Refusal>
+    requires first { BelongsTo nest_owners collector.now first }
+    requires second { BelongsTo nest_owners collector.now second }
+{
+    let mut pass = collector.pass();
+    let registration = collector.register(rt, &mut pass)?;
+    let one = retire(rt, collector, first);
+    let other = retire(rt, collector, second);
+    let before = ended(by);
+    registration.end(rt, &mut pass);
+    one.and(other)?;
+    Ok(before)
+}
+
 fn ended(by: PutInside<'_>) -> u64 {
     by.ended.load(Ordering::SeqCst)
 }
@@ -86,7 +120,8 @@ fn order(by: PutInside<'_>, number: u64) -> u64 {
     }
 }
 
-// 1 holds 2 and 3, and 2 holds 4. 1 and then 5 are retired, at size 2: 4 alone stays in the batch, and ends with its collector.
+// 1 holds 2 and 3, and 2 holds 4. A slot retires 1, and leaves it; the next one takes it and retires 5, at size 2: 4 alone is left then,
+// and ends with the last slot.
 #[test]
 fn each_value_ends_once_and_in_order(rt: HostRuntime) -> Result<(), Fail> {
     let count = AtomicU64::new(0);
@@ -103,16 +138,15 @@ fn each_value_ends_once_and_in_order(rt: HostRuntime) -> Result<(), Fail> {
     inside.push(second)?;
     inside.push(third)?;
     let first = around(&collector, 1, inside)?;
-    retire(&rt, &collector, first)?;
     let fifth = leaf(rt.alloc(), &collector, 5)?;
-    retire(&rt, &collector, fifth)?;
-    assert_eq!(rt; ended(by), 4);
+    assert_eq!(rt; retire_beside(&rt, &collector, first, fifth, by)?, 4);
     assert_eq!(rt;
         (order(by, 1), order(by, 5), order(by, 2), order(by, 3)),
         (1, 2, 3, 4)
     );
-    drop(collector);
     assert_eq!(rt; (ended(by), order(by, 4)), (5, 5));
+    drop(collector);
+    assert_eq!(rt; ended(by), 5);
     Ok(())
 }
 
@@ -141,9 +175,24 @@ fn a_long_chain_ends_as_all_is_reclaimed(rt: HostRuntime) -> Result<(), Fail> {
     };
     let mut collector = collector(rt.alloc(), 32, by)?;
     let first = chain(rt.alloc(), &collector)?;
-    retire(&rt, &collector, first)?;
+    retire_and_forget(&rt, &collector, first)?;
     assert_eq!(rt; ended(by), 0);
     assert!(rt; collector.reclaim_all(&mut ()));
+    assert_eq!(rt; ended(by), MANY);
+    Ok(())
+}
+
+// No batch is full, so each of them is an attempt of its own, as the last slot ends.
+#[test]
+fn a_long_chain_ends_with_the_last_slot(rt: HostRuntime) -> Result<(), Fail> {
+    let count = AtomicU64::new(0);
+    let by = PutInside {
+        ended: &count,
+        order: &[],
+    };
+    let collector = collector(rt.alloc(), 32, by)?;
+    let first = chain(rt.alloc(), &collector)?;
+    retire(&rt, &collector, first)?;
     assert_eq!(rt; ended(by), MANY);
     Ok(())
 }
@@ -168,7 +217,7 @@ impl Watch<Nest> for Digits {
     }
 }
 
-// Slot 0's batch holds 1, which holds 2, which holds 3; slot 1's batch holds 4, which was retired before.
+// Slot 0's batch holds 1, which holds 2, which holds 3. Slot 1 retired 4 before, and left it as it ended.
 fn retire_by_two(rt: &impl Wait, alloc: Global, collector: &Nests<'_>) -> Result<(), Refusal> {
     let fourth = leaf(alloc, collector, 4)?;
     let third = leaf(alloc, collector, 3)?;
@@ -178,7 +227,7 @@ fn retire_by_two(rt: &impl Wait, alloc: Global, collector: &Nests<'_>) -> Result
     let registration = collector.register(rt, &mut pass)?;
     let retired = retire(rt, collector, fourth);
     registration.retire(rt, &mut pass, Unlinked::from_owned(first, collector));
-    registration.end(rt, &mut pass);
+    registration.forget();
     retired
 }
 
@@ -187,7 +236,7 @@ fn in_turn(by: PutInside<'_>) -> (u64, u64, u64, u64) {
     (order(by, 1), order(by, 4), order(by, 2), order(by, 3))
 }
 
-// What waits in batches goes first, slot by slot, and then what was put, in turn: so the watch is told.
+// What waits in batches goes first, slot by slot, then what slots left, and then what was put, in turn: so the watch is told.
 #[test]
 fn what_is_put_goes_after_all_batches(rt: HostRuntime) -> Result<(), Fail> {
     let count = AtomicU64::new(0);

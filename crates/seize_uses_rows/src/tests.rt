@@ -40,7 +40,7 @@ fn with_one_link(alloc: Global) -> Result<Alone<u64>, Fail>
 #[test]
 fn a_number_is_put_in_and_read_alone(rt: HostRuntime) -> Result<(), Fail> {
     let mut alone = with_one_link(rt.alloc())?;
-    let slot = alone.enter_owned()?;
+    let slot = alone.enter_owned(&mut ())?;
     assert_eq!(rt; one_caller::put_and_read(&mut alone, slot, 7)?, Some(7));
     Ok(())
 }
@@ -48,7 +48,7 @@ fn a_number_is_put_in_and_read_alone(rt: HostRuntime) -> Result<(), Fail> {
 #[test]
 fn a_number_is_taken_out_alone(rt: HostRuntime) -> Result<(), Fail> {
     let mut alone = with_one_link(rt.alloc())?;
-    let slot = alone.enter_owned()?;
+    let slot = alone.enter_owned(&mut ())?;
     assert_eq!(rt; one_caller::put_and_read(&mut alone, slot, 7)?, Some(7));
     assert!(rt; one_caller::found_twice(&alone, slot)?);
     assert_eq!(rt; one_caller::take_out(&mut alone, slot)?, Some(7));
@@ -78,7 +78,7 @@ fn one_caller_has_the_id_of_the_collector(rt: HostRuntime) -> Result<(), Fail> {
 fn a_watch_is_told_once_the_guard_leaves(rt: HostRuntime) -> Result<(), Fail> {
     let mut newest = Newest(None);
     let mut alone = with_one_link(rt.alloc())?;
-    let slot = alone.enter_owned()?;
+    let slot = alone.enter_owned(&mut ())?;
     // By this answer the slot has a guard.
     assert!(rt; alone.protect(slot, 0)?.is_none());
     let block = alone.owned(7).expect(&rt, "memory");

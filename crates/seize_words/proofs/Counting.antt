@@ -8,7 +8,7 @@ use Rattle.seize_machine.specs.Machine.Event.{Event, AddCount, SubCount}
 use Rattle.seize_machine.specs.Machine.Next.{is_zero, of_call, walking_at}
 use Rattle.seize_machine.specs.Machine.History.{IsReached, first_or_none}
 use Rattle.seize_machine.specs.Machine.Laws.{IsHeld, added_batch}
-use Rattle.seize_machine.specs.Machine.Frames.{changes_slot, changes_used, changes_head_of, changes_link}
+use Rattle.seize_machine.specs.Machine.Frames.{changes_slot, changes_numbers, changes_head_of, changes_link}
 use Rattle.seize_machine.specs.declared.machine.event.Answer.{Answer}
 use Rattle.seize_machine.specs.declared.machine.event.Answer.TheVariants.{Count as Counted}
 use Rattle.seize_machine.proofs.Facts.{Step, Stands, eq_true, next_of, reached_next, step_of}
@@ -36,17 +36,17 @@ at_count n k = record { name = n; kind = counts; number = k }
 -- an event of slot s that changes its record and a count, and nothing else
 pub record IsCounting (s : ℕ) (event : Event) : Type 1 where
   pub slot : (j : ℕ) → changes_slot j event ≡ (s == j)
-  pub used : changes_used event ≡ false
+  pub numbers : changes_numbers event ≡ false
   pub head : (j : ℕ) → changes_head_of j event ≡ false
   pub link : (j : ℕ) → changes_link j event ≡ false
   pub home : (st : State) (j : ℕ) → changes_home st j event ≡ false
   pub births : (st : State) → births st event ≡ []
 
 adds_count : (s : ℕ) → IsCounting s (AddCount s)
-adds_count s = record { slot = λ j. refl; used = refl; head = λ j. refl; link = λ j. refl; home = λ st j. refl; births = λ st. refl }
+adds_count s = record { slot = λ j. refl; numbers = refl; head = λ j. refl; link = λ j. refl; home = λ st j. refl; births = λ st. refl }
 
 subtracts_count : (s : ℕ) → IsCounting s (SubCount s)
-subtracts_count s = record { slot = λ j. refl; used = refl; head = λ j. refl; link = λ j. refl; home = λ st j. refl; births = λ st. refl }
+subtracts_count s = record { slot = λ j. refl; numbers = refl; head = λ j. refl; link = λ j. refl; home = λ st j. refl; births = λ st. refl }
 
 -- a batch of one block is of no other
 other_block : (k j : ℕ) (batch : Batch) → is_in k batch ≡ true → j ≢ k → is_in j batch ≡ false
@@ -110,14 +110,14 @@ module _ (n : Name) (k : ℕ) where
 
     covers : Covers st (pass_key p own ∷ in_step (at_count n k) held_all (since, vs)) log (Made e)
     covers zero j beside there = differ e.pass j (λ i. beside.0 (refl, i ∙ pe))
-    covers (suc zero) j beside there = c.used
+    covers (suc zero) j beside there = c.numbers
     covers (suc (suc zero)) j beside there = c.slot j ∙ differ s j (λ i. beside_past vs _ more slots j beside.1.1 (refl, i))
     covers (suc (suc (suc zero))) j beside there = c.head j
     covers (suc (suc (suc (suc zero)))) j beside there = c.link j
     covers (suc (suc (suc (suc (suc zero))))) j beside there = not_here j (λ i. beside.1.0 (refl, i))
     covers (suc (suc (suc (suc (suc (suc zero)))))) j beside there = c.home (after st log) j
     covers (suc (suc (suc (suc (suc (suc (suc zero))))))) j beside there = refl
-    covers (suc (suc (suc (suc (suc (suc (suc (suc zero)))))))) j beside there = makes_none (after st log) e.event c.used
+    covers (suc (suc (suc (suc (suc (suc (suc (suc zero)))))))) j beside there = makes_none (after st log) e.event c.numbers
     covers (suc (suc (suc (suc (suc (suc (suc (suc (suc r))))))))) j beside there = refl
 
     names : NamesHeld st (pass_key p own ∷ in_step (at_count n k) held_all (since, vs)) log (Made e)
@@ -133,7 +133,7 @@ module _ (n : Name) (k : ℕ) where
         → AreToldIn (log ++ Made e ∷ []) (with_list (if trades then more else vs) (log ++ Made e ∷ []))
         → IsStep (at_count n k) p held_all [] w (Made e) trades (since, vs) own log
     made trades does ends shows stands theirs = record {
-      fair = record { done = d; legal = does; covers = covers; names = names; one = none_named e.size (after st log) e.event d (step_of _ _ _ _ does) (λ j. c.home (after st log) j); leads = unled (after st log) (plans st log) (field_value log) e.event (λ j. c.head j); labels = no_labels (pass_key p own ∷ in_step (at_count n k) held_all (since, vs)) e.size (after st log) e.event d (step_of _ _ _ _ does) (λ j. c.home (after st log) j); says = says_none (after st log) e (λ j. c.home (after st log) j); places = no_place (after st log) (pass_key p own ∷ in_step (at_count n k) held_all (since, vs)) (Made e) (makes_none (after st log) e.event c.used) };
+      fair = record { done = d; legal = does; covers = covers; names = names; one = none_named e.size (after st log) e.event d (step_of _ _ _ _ does) (λ j. c.home (after st log) j); leads = unled (after st log) (plans st log) (field_value log) e.event (λ j. c.head j); labels = no_labels (pass_key p own ∷ in_step (at_count n k) held_all (since, vs)) e.size (after st log) e.event d (step_of _ _ _ _ does) (λ j. c.home (after st log) j); says = says_none (after st log) e (λ j. c.home (after st log) j); places = no_place (after st log) (pass_key p own ∷ in_step (at_count n k) held_all (since, vs)) (Made e) (makes_none (after st log) e.event c.numbers) };
       its = pe;
       bears = c.births (after st log);
       ends = ends;

@@ -9,7 +9,7 @@ use Rattle.seize_machine.specs.Machine.State.{State, Slot, Progress, Place, Head
 use Rattle.seize_machine.specs.Machine.Event.{Event, Enter, Insert, ReadHead, SwapOut}
 use Rattle.seize_machine.specs.Machine.Next.{is_due, look, next, of_call, set_head}
 use Rattle.seize_machine.specs.Machine.History.{IsReached, done_by, first_or_none}
-use Rattle.seize_machine.specs.Machine.Frames.{changes_slot, changes_used, changes_head_of, changes_link, slots_added}
+use Rattle.seize_machine.specs.Machine.Frames.{changes_slot, changes_numbers, changes_head_of, changes_link, slots_added}
 use Rattle.seize_machine.specs.declared.machine.event.Answer.{Answer}
 use Rattle.seize_machine.specs.declared.machine.event.Answer.TheVariants.{Done}
 use Rattle.seize_machine.specs.declared.machine.event.Try.{Try as Insertion}
@@ -39,7 +39,7 @@ at_head n m = record { name = n; kind = heads; number = m }
 -- What an event of slot s may change that is a step on the head of slot m.
 record Touches (s m : ℕ) (event : Event) : Type 1 where
   pub slot : (k : ℕ) → k ≢ s → changes_slot k event ≡ false
-  pub used : changes_used event ≡ false
+  pub numbers : changes_numbers event ≡ false
   pub head : (k : ℕ) → k ≢ m → changes_head_of k event ≡ false
   pub link : (k : ℕ) → changes_link k event ≡ false
   pub others : (st : State) (k : ℕ) → (changes_count st k event ≡ false) × (changes_home st k event ≡ false)
@@ -98,19 +98,19 @@ module _ (n : Name) (m : ℕ) where
   module _ (p s : ℕ) (x : Tag) (slots_own own since log : List Entry) (lives : List ℕ) (w : ℕ) (e : Deed) (pe : e.pass ≡ p) (t : Touches s m e.event) (d : State × Answer) where
     covers : Covers st (pass_key p own ∷ in_step (at_head n m) (key s x slots_own) (since, [])) log (Made e)
     covers zero k b there = differ e.pass k (λ i. b.0 (refl, i ∙ pe))
-    covers (suc zero) k b there = t.used
+    covers (suc zero) k b there = t.numbers
     covers (suc (suc zero)) k b there = t.slot k (λ i. b.1.1.0 (refl, i))
     covers (suc (suc (suc zero))) k b there = t.head k (λ i. b.1.0 (refl, i))
     covers (suc (suc (suc (suc zero)))) k b there = t.link k
     covers (suc (suc (suc (suc (suc zero))))) k b there = (t.others (after st log) k).0
     covers (suc (suc (suc (suc (suc (suc zero)))))) k b there = (t.others (after st log) k).1
     covers (suc (suc (suc (suc (suc (suc (suc zero))))))) k b there = refl
-    covers (suc (suc (suc (suc (suc (suc (suc (suc zero)))))))) k b there = makes_none (after st log) e.event t.used
+    covers (suc (suc (suc (suc (suc (suc (suc (suc zero)))))))) k b there = makes_none (after st log) e.event t.numbers
     covers (suc (suc (suc (suc (suc (suc (suc (suc (suc r))))))))) k b there = refl
 
     made : Does st log (Made e) d → Leads (after st log) (plans st log) (field_value log) e.event → EndsAmong lives log (Made e) → w ≡ head_word st (log ++ Made e ∷ []) m → IsStep (at_head n m) p (key s x slots_own) lives w (Made e) false (since, []) own log
     made does leads ends shows = record {
-      fair = record { done = d; legal = does; covers = covers; names = λ many was there. (subst (λ (z : ℕ). z < many 0) (sym pe) there.0, (λ k le. (t.others (after st log) k).0), (λ k le. (t.others (after st log) k).1), λ f le. refl); leads = leads; one = none_named e.size (after st log) e.event d (step_of _ _ _ _ does) (λ k. (t.others (after st log) k).1); labels = no_labels (pass_key p own ∷ in_step (at_head n m) (key s x slots_own) (since, [])) e.size (after st log) e.event d (step_of _ _ _ _ does) (λ k. (t.others (after st log) k).1); says = says_none (after st log) e (λ k. (t.others (after st log) k).1); places = no_place (after st log) (pass_key p own ∷ in_step (at_head n m) (key s x slots_own) (since, [])) (Made e) (makes_none (after st log) e.event t.used) };
+      fair = record { done = d; legal = does; covers = covers; names = λ many was there. (subst (λ (z : ℕ). z < many 0) (sym pe) there.0, (λ k le. (t.others (after st log) k).0), (λ k le. (t.others (after st log) k).1), λ f le. refl); leads = leads; one = none_named e.size (after st log) e.event d (step_of _ _ _ _ does) (λ k. (t.others (after st log) k).1); labels = no_labels (pass_key p own ∷ in_step (at_head n m) (key s x slots_own) (since, [])) e.size (after st log) e.event d (step_of _ _ _ _ does) (λ k. (t.others (after st log) k).1); says = says_none (after st log) e (λ k. (t.others (after st log) k).1); places = no_place (after st log) (pass_key p own ∷ in_step (at_head n m) (key s x slots_own) (since, [])) (Made e) (makes_none (after st log) e.event t.numbers) };
       its = pe;
       bears = t.births (after st log);
       ends = ends;
@@ -166,7 +166,7 @@ module _ (n : Name) (m : ℕ) where
       go (Some call) e h = by_place call.place call.queue e h
 
   read_touches : (s : ℕ) → Touches s m (ReadHead s m)
-  read_touches s = record { slot = λ k d. differ s k d; used = refl; head = λ k d. refl; link = λ k. refl; others = λ st k. (refl, refl); births = λ st. refl }
+  read_touches s = record { slot = λ k d. differ s k d; numbers = refl; head = λ k d. refl; link = λ k. refl; others = λ st k. (refl, refl); births = λ st. refl }
 
   pub may_read : (p size : ℕ) (seen : List Entry) (held : List (HeldKey Entry)) → is_one slots held ≡ true → reads (slot_at (after st (own_of held)) (key_of held)) m ≡ true → m < length (after st seen).slots
       → MayStep (at_head n m) p seen held [] [] (λ v. v) (λ v log. Made (record { pass = p; size = size; event = ReadHead (key_of held) m; life = 0; kepts = [] })) (λ v. false)
@@ -181,7 +181,7 @@ module _ (n : Name) (m : ℕ) where
   -- The slot becomes active.
 
   enter_touches : (s : ℕ) → s ≡ m → Touches s m (Enter s)
-  enter_touches s is = record { slot = λ k d. differ s k d; used = refl; head = λ k d. differ s k (λ e. d (e ∙ is)); link = λ k. refl; others = λ st k. (refl, refl); births = λ st. refl }
+  enter_touches s is = record { slot = λ k d. differ s k d; numbers = refl; head = λ k d. differ s k (λ e. d (e ∙ is)); link = λ k. refl; others = λ st k. (refl, refl); births = λ st. refl }
 
   -- a slot with a call, or in use, is there, and so is its head
   head_there : (log : List Entry) (s : ℕ) → are_distinct (linked_values n.links) ≡ true → IsLegalList st log → (slot_at (after st log) s ≡ no_slot → ⊥) → s < length (after st log).heads
@@ -210,7 +210,7 @@ module _ (n : Name) (m : ℕ) where
   -- The slot leaves or refreshes.
 
   leave_touches : (s : ℕ) → s ≡ m → Touches s m (SwapOut s)
-  leave_touches s is = record { slot = λ k d. differ s k d; used = refl; head = λ k d. differ s k (λ e. d (e ∙ is)); link = λ k. refl; others = λ st k. (refl, refl); births = λ st. refl }
+  leave_touches s is = record { slot = λ k d. differ s k d; numbers = refl; head = λ k d. differ s k (λ e. d (e ∙ is)); link = λ k. refl; others = λ st k. (refl, refl); births = λ st. refl }
 
   left_word : (stays : Bool) (block : ℕ → ℕ) → (if stays then 1 else 0) ≡ word_of block (if stays then Active [] else Inactive)
   left_word true block = refl
@@ -239,8 +239,8 @@ module _ (n : Name) (m : ℕ) where
   -- An insertion, won or lost.
 
   insert_touches : (s : ℕ) (end : Insertion) → Touches s m (Insert s m end)
-  insert_touches s Won = record { slot = λ k d. differ s k d; used = refl; head = λ k d. differ m k d; link = λ k. refl; others = λ st k. (refl, refl); births = λ st. refl }
-  insert_touches s Lost = record { slot = λ k d. differ s k d; used = refl; head = λ k d. refl; link = λ k. refl; others = λ st k. (refl, refl); births = λ st. refl }
+  insert_touches s Won = record { slot = λ k d. differ s k d; numbers = refl; head = λ k d. differ m k d; link = λ k. refl; others = λ st k. (refl, refl); births = λ st. refl }
+  insert_touches s Lost = record { slot = λ k d. differ s k d; numbers = refl; head = λ k d. refl; link = λ k. refl; others = λ st k. (refl, refl); births = λ st. refl }
 
   -- a head's word that is that of a list is an active head's
   word_active : (block : ℕ → ℕ) (h : Head) (x : ℕ) (bs : List ℕ) (other : ℕ → ℕ) → word_of block h ≡ list_word other bs → (waiting : List ℕ) × (h ≡ Active waiting)

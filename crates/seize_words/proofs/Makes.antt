@@ -1,16 +1,17 @@
 -- The key of the numbers and that of the next slot are enough to make the slot, where all numbers are in use: by a step on the total.
-use Rattle.std.proofs.Common.{inl, inr, ◌≡◌, ℕ, zero, suc, ◌+◌, ◌^◌, ◌<◌, true, false, List, [], ◌∷◌, ◌++◌, length, get_or, Bool, refl, sym, ◌∙◌, ap, subst, arith, not, nat_lt, ◌&&◌, if◌then◌else◌, Some, None}
+use Rattle.std.proofs.Common.{inl, inr, ◌≡◌, ℕ, zero, suc, ◌+◌, ◌^◌, ◌<◌, true, false, List, [], ◌∷◌, ◌++◌, length, map, get_or, Bool, refl, sym, ◌∙◌, ap, subst, arith, not, nat_le, nat_lt, max, ◌&&◌, ◌||◌, if◌then◌else◌, Some, None}
+use Rattle.std.specs.List.{list_any}
 use base.Stored.{gnil}
 use Rattle.std.proofs.lemmas.List.{length-map}
 use Rattle.std.proofs.Math.Nat.{mod-eq_of_lt}
-use Rattle.seize_machine.specs.Machine.State.{State, Slot, Head, Inactive, head_at, no_slot, slot_at}
+use Rattle.seize_machine.specs.Machine.State.{State, Slot, Inactive, Mark, are_distinct, head_at, linked_values, no_slot, slot_at}
 use Rattle.seize_machine.specs.Machine.Event.{Take}
-use Rattle.seize_machine.specs.Machine.Next.{after_take, first_free, next}
+use Rattle.seize_machine.specs.Machine.Next.{after_take, first_free, next, scheme, slot_set, taken_slot}
 use Rattle.seize_machine.specs.Machine.Frames.{used}
 use Rattle.seize_machine.specs.Machine.History.{IsReached}
 use Rattle.seize_machine.specs.declared.machine.event.Answer.{Answer}
 use Rattle.seize_machine.specs.declared.machine.event.Answer.TheVariants.{Done}
-use Rattle.seize_machine.proofs.Facts.{heads_length, some_is}
+use Rattle.seize_machine.proofs.Facts.{heads_length, no_rest, some_is}
 use Rattle.seize_table.specs.Place.{all_numbers}
 use Rattle.seize_words.specs.Atomic.{plus}
 use Rattle.seize_book.specs.Ledger.{HeldKey, HoldersKnow, with_list, keys_made}
@@ -22,7 +23,7 @@ use Rattle.seize_book.specs.Private.{Tag, is_one, key_of, label_of, note_of, tag
 use Rattle.seize_words.specs.Stepping.{FoundAs, IsStepWith, MayStepWith, in_step}
 use Rattle.seize_book.specs.Tokens.{Name, start}
 use Rattle.seize_words.specs.Words.{Site}
-use Rattle.seize_book.proofs.Facts.{after_push, equal, free_by, the_only, only, only_is, differ}
+use Rattle.seize_book.proofs.Facts.{after_push, equal, free_by, reached_after, the_only, only, only_is, differ}
 
 abbrev pub at_total : Name → Site
 at_total n = record { name = n; kind = totals; number = 0 }
@@ -57,16 +58,32 @@ as_many a b same = sym (length-map a.slots (λ slot. slot.used)) ∙ ap (λ (us 
 as_free : (a b : State) → used a ≡ used b → first_free a.slots ≡ first_free b.slots
 as_free a b same = free_by a.slots ∙ ap first_false same ∙ sym (free_by b.slots)
 
-made_by : State → ℕ → State × Answer
-made_by st s = (record st { slots = st.slots ++ record { used = true; batch = []; call = None } ∷ []; heads = st.heads ++ Inactive ∷ [] }, Done)
+-- in use, with no call, and has retired nothing
+abbrev pub new_slot : Slot
+new_slot = record { used = true; batch = []; call = None }
 
-does : (size : ℕ) (st : State) (s : ℕ) → s ≡ length st.slots → s ≡ first_free st.slots → s < all_numbers → next size st (Take s) ≡ Some (made_by st s)
-unfolding made_by
-does size st s is least few =
-    ap (λ (c : Bool). if c && nat_lt s all_numbers then Some (after_take st s, Done) else None) (equal s (first_free st.slots) least)
-    ∙ ap (λ (c : Bool). if c then Some (after_take st s, Done) else None) (below s all_numbers few)
-    ∙ ap (λ (c : Bool). Some (if c then (made_by st s).0 else Rattle.seize_machine.specs.Machine.Next.slot_set st s (record (Rattle.seize_machine.specs.Machine.State.slot_at st s) { used = true }), Done)) (equal s (length st.slots) is)
+made_by : State → ℕ → State × Answer
+made_by st s = (record st { slots = st.slots ++ new_slot ∷ []; heads = st.heads ++ Inactive ∷ []; rest = [] }, Done)
+
+-- with nothing left no call begins
+takes_none : (size slots : ℕ) → taken_slot size slots [] ≡ new_slot
+takes_none size slots = ap (λ (full : Bool). record { used = true; batch = []; call = (if full then Some (record { place = Mark 0 slots []; queue = [] }) else None) }) (below size)
   where
+    below : (size : ℕ) → nat_le (max 1 size) 0 ≡ false
+    below size = grind arith
+
+does : (size : ℕ) (st : State) (s : ℕ) → s ≡ length st.slots → s ≡ first_free st.slots → s < all_numbers → st.rest ≡ [] → next size st (Take s) ≡ Some (made_by st s)
+unfolding made_by
+does size st s is least few none =
+    ap (λ (c : Bool). if c && nat_lt s all_numbers then Some (after_take scheme size st s, Done) else None) (equal s (first_free st.slots) least)
+    ∙ ap (λ (c : Bool). if c then Some (after_take scheme size st s, Done) else None) (below s all_numbers few)
+    ∙ ap (λ (c : Bool). Some (if c then with_slot (taken_slot size (length st.slots + 1) st.rest) else slot_set (record st { rest = [] }) s (taken_slot size (length st.slots) st.rest), Done)) (equal s (length st.slots) is)
+    ∙ ap (λ (rest : List ℕ). Some (with_slot (taken_slot size (length st.slots + 1) rest), Done)) none
+    ∙ ap (λ (slot : Slot). Some (with_slot slot, Done)) (takes_none size (length st.slots + 1))
+  where
+    with_slot : Slot → State
+    with_slot slot = record st { slots = st.slots ++ slot ∷ []; heads = st.heads ++ Inactive ∷ []; rest = [] }
+
     below : (x y : ℕ) → x < y → nat_lt x y ≡ true
     below x y l = grind arith
 
@@ -84,6 +101,18 @@ pushed_free (y ∷ all) x h u = go y.used refl h (λ k. pushed_free all x k u)
         let was : 1 + first_free all ≡ suc (length all) = sym (ap (λ (c : Bool). if not (not c) then 1 + first_free all else 0) is) ∙ h in
         let now : first_free (all ++ x ∷ []) ≡ suc (length all) = ih (omega (arith, was)) in
         ap (λ (c : Bool). if not (not c) then 1 + first_free (all ++ x ∷ []) else 0) is ∙ omega (arith, now)
+    go false is h ih = absurd (let z : 0 ≡ suc (length all) = sym (ap (λ (c : Bool). if not (not c) then 1 + first_free all else 0) is) ∙ h in omega (arith, z))
+
+-- where all numbers are in use, none is not
+none_unused : (all : List Slot) → first_free all ≡ length all → list_any (λ u. not u) (map (λ slot. slot.used) all) ≡ false
+none_unused [] h = refl
+none_unused (y ∷ all) h = go y.used refl h (none_unused all)
+  where
+    go : (c : Bool) → y.used ≡ c → (if not (not y.used) then 1 + first_free all else 0) ≡ suc (length all) → (first_free all ≡ length all → list_any (λ u. not u) (map (λ slot. slot.used) all) ≡ false)
+        → (not y.used || list_any (λ u. not u) (map (λ slot. slot.used) all)) ≡ false
+    go true is h ih =
+        let was : 1 + first_free all ≡ suc (length all) = sym (ap (λ (c : Bool). if not (not c) then 1 + first_free all else 0) is) ∙ h in
+        ap (λ (c : Bool). not c || list_any (λ u. not u) (map (λ slot. slot.used) all)) is ∙ ih (omega (arith, was))
     go false is h ih = absurd (let z : 0 ≡ suc (length all) = sym (ap (λ (c : Bool). if not (not c) then 1 + first_free all else 0) is) ∙ h in omega (arith, z))
 
 last : {X : Type 0} (xs : List X) (x d : X) → get_or (xs ++ x ∷ []) (length xs) d ≡ x
@@ -129,9 +158,19 @@ module _ (n : Name) (a b : List (HeldKey Entry)) where
     record Now (log : List Entry) : Type 0 where
       many : s ≡ length (after st log).slots
       free : s ≡ first_free (after st log).slots
+      left : old.rest ≡ (after st log).rest
+      none : (after st log).rest ≡ []
 
-    now : (log : List Entry) → used old ≡ used (after st log) → Now log
-    now log same = record { many = as_many old (after st log) same; free = sym may.full ∙ as_free old (after st log) same }
+    -- while all numbers are in use nothing is left
+    now : (log : List Entry) → are_distinct (linked_values n.links) ≡ true → IsLegalList st log → (used old ≡ used (after st log)) × (old.rest ≡ (after st log).rest) → Now log
+    now log distinct legal same =
+        let many = as_many old (after st log) same.0 in let free = sym may.full ∙ as_free old (after st log) same.0 in
+        record {
+          many = many;
+          free = free;
+          left = same.1;
+          none = no_rest (after st log) (reached_after n log distinct legal) (none_unused (after st log).slots (sym free ∙ many));
+        }
 
     module _ (p size : ℕ) where
       abbrev e : Deed
@@ -141,7 +180,7 @@ module _ (n : Name) (a b : List (HeldKey Entry)) where
       then_ log = log ++ Made e ∷ []
 
       legal_now : (log : List Entry) → Now log → next size (after st log) (Take s) ≡ Some (made_by (after st log) s)
-      legal_now log is = does size (after st log) s is.many is.free may.few
+      legal_now log is = does size (after st log) s is.many is.free may.few is.none
 
       bears_now : (log : List Entry) → Now log → births (after st log) (Take s) ≡ of_slot (suc s)
       bears_now log is = ap (λ (c : Bool). if c then of_next_slot (after st log) else []) (equal s (length (after st log).slots) is.many) ∙ ap (λ (k : ℕ). of_slot (suc k)) (sym is.many)
@@ -150,7 +189,7 @@ module _ (n : Name) (a b : List (HeldKey Entry)) where
       unfolding made_by
       one_more log legal is =
           ap (λ (z : State). length z.slots) (after_push st log (Made e) (made_by (after st log) s) legal (legal_now log is))
-          ∙ pushed_length (after st log).slots (record { used = true; batch = []; call = None }) ∙ ap suc (sym is.many)
+          ∙ pushed_length (after st log).slots new_slot ∙ ap suc (sym is.many)
 
       abbrev Step : ℕ → List Entry × List (HeldKey Entry) → List Entry → List Entry → Type 0
       Step v t own log = IsStepWith (of_slot (suc s)) (at_total n) p both [] (plus 1 v) (Made e) false t own log
@@ -158,7 +197,7 @@ module _ (n : Name) (a b : List (HeldKey Entry)) where
       step : (v : ℕ) (since own log : List Entry) (seen : List Entry) → FoundAs (at_total n) v p seen both [] (since, []) log → Step v (since, []) own log
       unfolding made_by
       step v since own log seen found =
-          let before = found.before in let is = now log before.kept.1.0.1 in
+          let before = found.before in let is = now log found.distinct before.legal before.kept.1.0.1 in
           let was : v ≡ length (after st since).slots = found.shows in let same : length (after st since).slots ≡ length (after st log).slots = before.kept.0.1 in
           record {
             fair = record {
@@ -197,7 +236,7 @@ module _ (n : Name) (a b : List (HeldKey Entry)) where
             let none : t.1 ≡ [] = found.stands in
             let kept = subst (λ (hs : List (HeldKey Entry)). HoldersKnow (rules st) (in_step (at_total n) hs (t.0, [])) log) joined
             (subst (λ (vs : List (HeldKey Entry)). HoldersKnow (rules st) (in_step (at_total n) (a ++ b) (t.0, vs)) log) none found.before.kept) in
-            now log kept.1.0.1
+            now log found.distinct found.before.legal kept.1.0.1
 
         -- the slot has made no event since its key's list
         pub slot_kept : HolderKnows st TheSlot (key_of b) (own_of b) log
@@ -213,17 +252,18 @@ module _ (n : Name) (a b : List (HeldKey Entry)) where
             ∷ record { kind = slots; key = suc s; own = log'; label = 0; note = gnil } ∷ record { kind = heads; key = suc s; own = log'; label = 0; note = gnil } ∷ []
         all_keys log' = ap (λ (hs : List (HeldKey Entry)). with_list hs log' ++ keys_made (of_slot (suc s)) log') joined
 
-        abbrev new : Slot
-        new = record { used = true; batch = []; call = None }
-
         module _ (d : State × Answer) (done : next size (after st log) (Take s) ≡ Some d) where
           is_made : d ≡ made_by (after st log) s
           is_made = some_is _ _ (sym done ∙ legal_now log known)
 
-          -- it is in use, with no call, and has retired nothing
-          pub new_slot : slot_at d.0 s ≡ new
+          pub slot_is : slot_at d.0 s ≡ new_slot
           unfolding made_by
-          new_slot = ap (λ (x : State × Answer). slot_at x.0 s) is_made ∙ ap (λ (k : ℕ). get_or ((after st log).slots ++ new ∷ []) k no_slot) known.many ∙ last (after st log).slots new no_slot
+          slot_is = ap (λ (x : State × Answer). slot_at x.0 s) is_made ∙ ap (λ (k : ℕ). get_or ((after st log).slots ++ new_slot ∷ []) k no_slot) known.many ∙ last (after st log).slots new_slot no_slot
+
+          -- nothing was left, nor is
+          pub new_rest : (old.rest ≡ []) × (d.0.rest ≡ [])
+          unfolding made_by
+          new_rest = (known.left ∙ known.none, ap (λ (x : State × Answer). x.0.rest) is_made)
 
           heads_are : IsReached (after st log) → length (after st log).heads ≡ s
           heads_are reached = heads_length (after st log) reached ∙ sym known.many
@@ -242,6 +282,6 @@ module _ (n : Name) (a b : List (HeldKey Entry)) where
           unfolding made_by
           new_full =
               let free : first_free (after st log).slots ≡ length (after st log).slots = sym known.free ∙ known.many in (
-                ap (λ (x : State × Answer). length x.0.slots) is_made ∙ pushed_length (after st log).slots new ∙ ap suc (sym known.many),
-                ap (λ (x : State × Answer). first_free x.0.slots) is_made ∙ pushed_free (after st log).slots new free refl ∙ ap suc (sym known.many),
+                ap (λ (x : State × Answer). length x.0.slots) is_made ∙ pushed_length (after st log).slots new_slot ∙ ap suc (sym known.many),
+                ap (λ (x : State × Answer). first_free x.0.slots) is_made ∙ pushed_free (after st log).slots new_slot free refl ∙ ap suc (sym known.many),
               )

@@ -9,7 +9,7 @@ use Rattle.seize_words.specs.Atomic.{TakesStepWith, entries, plus}
 use Rattle.seize_book.specs.Book.{HolderKnows, TheSlot, acts, after, by_slot, heads, numbers, of_slot, slots}
 use Rattle.seize_book.specs.Entry.{Entry, Made}
 use Rattle.seize_book.specs.Ledger.{HeldKey}
-use Rattle.seize_book.specs.Others.{state_of}
+use Rattle.seize_book.specs.Others.{rest_of, state_of}
 use Rattle.seize_book.specs.Passes.{IsSamePass}
 use Rattle.seize_book.specs.Private.{is_one, key_of, label_of, note_of, own_of}
 use Rattle.seize_words.specs.Stepping.{FoundAs, HasSteppedWith, MayStepWith}
@@ -23,7 +23,7 @@ use Rattle.seize_book.specs.declared.book.pass.Pass.{Pass}
 use Rattle.seize_book.specs.declared.book.slot_key.SlotKey.{SlotKey}
 use Rattle.seize_book.proofs.Facts.{equal, reached_after}
 use Rattle.seize_book.proofs.Lists.{selected_in}
-use Rattle.seize_words.proofs.Makes.{MayMakeIt, all_keys, at_total, may_make, new_full, new_head, new_slot, next_head, slot_kept, takes}
+use Rattle.seize_words.proofs.Makes.{MayMakeIt, all_keys, at_total, may_make, new_full, new_head, new_rest, new_slot, next_head, slot_is, slot_kept, takes}
 
 own_first : (a b : List (HeldKey Entry)) → is_one numbers a ≡ true → own_of (a ++ b) ≡ own_of a
 own_first [] b one = absurd (cc)
@@ -81,10 +81,11 @@ module _ (word : Site) (numbers_ : NumbersKey) (key : SlotKey) (pass : Pass) (bo
     pub held : keys'.held ≡ record { kind = numbers; key = key_of a; own = pass'.seen; label = label_of a; note = note_of a } ∷ record { kind = slots; key = key_of b; own = pass'.seen; label = label_of b; note = note_of b }
         ∷ record { kind = slots; key = suc s; own = pass'.seen; label = 0; note = gnil } ∷ record { kind = heads; key = suc s; own = pass'.seen; label = 0; note = gnil } ∷ []
     pub acts : by_slot (start n) s pass'.seen ≡ by_slot (start n) s (own_of b) ++ (Made (takes pass.id pass.size s), noted.answer) ∷ []
-    pub slot : slot_at noted.later s ≡ record { used = true; batch = []; call = Rattle.std.specs.Prelude.None }
+    pub slot : slot_at noted.later s ≡ new_slot
     pub head : head_at noted.later s ≡ Inactive
     pub next_head : head_at noted.later (suc s) ≡ Inactive
     pub full : (length noted.later.slots ≡ suc s) × (first_free noted.later.slots ≡ suc s)
+    pub rest : (rest_of numbers_ ≡ []) × (noted.later.rest ≡ [])
 
   module _ (keys' : Keys) (pass' : Pass) (v : ℕ) where
     pub told : TakesStepWith (of_slot (suc (length (state_of both).slots))) word both pass keys' pass' [] (plus 1) v (entries pass 0 (λ v log. Take (length (state_of both).slots))) (λ v. false) → Told keys' pass'
@@ -106,8 +107,9 @@ module _ (word : Site) (numbers_ : NumbersKey) (key : SlotKey) (pass : Pass) (bo
               ∙ ap (λ (made : List (Entry × Answer)). made ++ (Made (takes pass.id pass.size s), noted.answer) ∷ [])
               (sym (subst (λ (k : ℕ). HolderKnows (start n) TheSlot k (own_of b) noted.before) may.1
               (slot_kept n a b its pass.id pass.size v pass.seen step.since noted.before found)).1.0);
-          slot = new_slot n a b its pass.id pass.size v pass.seen step.since noted.before found (noted.later, noted.answer) noted.does;
+          slot = slot_is n a b its pass.id pass.size v pass.seen step.since noted.before found (noted.later, noted.answer) noted.does;
           head = new_head n a b its pass.id pass.size v pass.seen step.since noted.before found (noted.later, noted.answer) noted.does reached;
           next_head = next_head n a b its pass.id pass.size v pass.seen step.since noted.before found (noted.later, noted.answer) noted.does reached;
           full = new_full n a b its pass.id pass.size v pass.seen step.since noted.before found (noted.later, noted.answer) noted.does;
+          rest = new_rest n a b its pass.id pass.size v pass.seen step.since noted.before found (noted.later, noted.answer) noted.does;
         }

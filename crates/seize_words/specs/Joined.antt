@@ -14,6 +14,7 @@ use Rattle.seize_words.specs.LinkRows.{IsLinkAt}
 use Rattle.seize_words.specs.LinkWords.{value_held}
 use Rattle.seize_words.specs.Links.{IsNewIn, IsWithin}
 use Rattle.seize_words.specs.Reserved.{HasNextSlot}
+use Rattle.seize_book.specs.Others.{rest_of}
 use Rattle.seize_book.specs.Slots.{IsKeyOfBook, slot_number}
 use Rattle.seize_book.specs.Tokens.{Name}
 use Rattle.seize_book.specs.Porters.{IsFirstPorter}
@@ -35,7 +36,7 @@ words_book words = words.blocks.book.name
 -- the book has just begun, with as many links, and the keys are those of its first slot
 pub record HasJustBegun (book : Seen) (numbers : NumbersKey) (next : NextSlot) (many : ℕ) : Type 0 where
   pub began : BeganWith book.name many book.name.store book.name.table × (book.seen ≡ [])
-  pub numbers_are : (numbers.keys.name ≡ book.name) × (made_of numbers ≡ 0)
+  pub numbers_are : (numbers.keys.name ≡ book.name) × (made_of numbers ≡ 0) × (rest_of numbers ≡ [])
   pub next_is : HasNextSlot numbers next
 
 abbrev pub with_size : {T : Type 0} → Words T → ℕ → Words T

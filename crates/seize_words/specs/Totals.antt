@@ -14,7 +14,7 @@ use Rattle.seize_machine.specs.Machine.State.{Inactive}
 use Rattle.seize_book.specs.Adding.{private}
 use Rattle.seize_book.specs.Book.{after}
 use Rattle.seize_book.specs.Entry.{Made}
-use Rattle.seize_book.specs.Others.{Follows, state_of}
+use Rattle.seize_book.specs.Others.{Follows, rest_of, state_of}
 use Rattle.seize_book.specs.Passes.{IsSamePass}
 use Rattle.seize_book.specs.Private.{key_of, own_of}
 use Rattle.seize_words.specs.Reservations.{head_known}
@@ -61,6 +61,8 @@ pub record MakesSlot (numbers : NumbersKey) (key : SlotKey) (pass : Pass) (numbe
   pub inactive : active_of key' ≡ false
   -- there is one more, and all numbers are in use still
   pub next : (made_of numbers' ≡ suc (made_of numbers)) × (first_free (state_of numbers'.keys).slots ≡ made_of numbers')
+  -- while all numbers are in use nothing is left
+  pub rest : (rest_of numbers ≡ []) × (rest_of numbers' ≡ [])
 
 pub record AreNextKeys (numbers : NumbersKey) (pass : Pass) (keys : SlotKeys) : Type 0 where
   pub book : (keys.slot.keys.name ≡ pass.name) × (keys.head.keys.name ≡ pass.name)

@@ -14,7 +14,7 @@ calls batch place = record { used = true; batch = batch; call = Some (record { p
 abbrev pub before_detached : List Slot → List Head → List ℕ → Stage
 before_detached slots heads named = record {
   size = 1;
-  state = record { slots = slots; heads = heads; batches = []; links = None ∷ []; loose = []; gone = []; named = named };
+  state = record { slots = slots; heads = heads; batches = []; links = None ∷ []; rest = []; loose = []; gone = []; named = named };
   plans = [];
 }
 
@@ -56,6 +56,7 @@ after_detached reader retirer head batch v = record {
     heads = head ∷ Inactive ∷ [];
     batches = batch ∷ [];
     links = None ∷ [];
+    rest = [];
     loose = [];
     gone = [];
     named = v ∷ [];

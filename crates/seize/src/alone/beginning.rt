@@ -95,8 +95,8 @@ impl<T: Drop, R: Reclaim<T>> Alone<T, R> {
         let Ok(ender) = Box::new(alloc, ender) else {
             return Err(Refusal::NoMemory);
         };
-        let numbers = Numbers::new(alloc, key, next, &words.blocks.book);
         let mut pass = porter.shut();
+        let numbers = Numbers::new(alloc, key, next, &words.blocks.book, &mut pass);
         let hands = Hands::first::<Brand, (usize, usize)>(&pass, &(size, links));
         words.links.rest(&mut pass);
         Ok(Alone {

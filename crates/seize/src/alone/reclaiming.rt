@@ -76,7 +76,7 @@ impl<T: Drop, R: Reclaim<T>> Alone<T, R> {
     }
 
     /// Leaves with one guard of the slot. With its last one the slot is inactive; what waited for it alone is gone. An owned slot gives its
-    /// number back.
+    /// number back then, as by `end`.
     ///
     /// The watch is told of each value that is gone, in order. It takes no memory and waits for nobody, but for what watch and reclaimer
     /// do.
@@ -99,7 +99,7 @@ impl<T: Drop, R: Reclaim<T>> Alone<T, R> {
         }
         self.part(s, watch);
         if owned {
-            self.free(s);
+            self.give_back(s, watch);
         }
         Ok(())
     }
@@ -182,9 +182,9 @@ impl<T: Drop, R: Reclaim<T>> Alone<T, R> {
         Ok(())
     }
 
-    /// Every slot leaves and gives its number back, in order of numbers; then each slot's batch is gone, in order. Then what the reclaimer
-    /// put meanwhile is gone, oldest first; what it puts with these joins the end, until none is left. So every number is free then, every
-    /// batch is empty, and no retired batch is left. The links hold what they held.
+    /// Every slot leaves, in order of numbers; then each slot's batch is gone, in order, and then what slots left as they ended. Then what
+    /// the reclaimer put meanwhile is gone, oldest first; what it puts with these joins the end, until none is left. So every number is
+    /// free then, every batch is empty, and no retired batch is left. The links hold what they held.
     ///
     /// The watch is told of each value that is gone, in order. It takes no memory and waits for nobody, but for what watch and reclaimer
     /// do.

@@ -138,11 +138,11 @@ impl<T: Drop, R: Reclaim<T>> Alone<T, R> {
         ensures same_reference { watch.exit.ghost_name ≡ watch.entry.ghost_name }
     {
         match call {
-            Call::Register => Reply::number(self.register()),
-            Call::EnterOwned => Reply::number(self.enter_owned()),
+            Call::Register => Reply::number(self.register(watch)),
+            Call::EnterOwned => Reply::number(self.enter_owned(watch)),
             Call::Enter(s) => Reply::plain(self.enter(s)),
             Call::Leave(s) => Reply::plain(self.leave(s, watch)),
-            Call::End(s) => match self.end(s) {
+            Call::End(s) => match self.end(s, watch) {
                 Ok(true) => Reply::Done,
                 Ok(false) => Reply::Kept,
                 Err(refusal) => Reply::Refused(refusal, None),

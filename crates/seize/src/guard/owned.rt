@@ -13,7 +13,7 @@ use crate::collector::Collector;
 use crate::guard::{Guard, GuardCore};
 use seize_calls::slot::Slot;
 use seize_cells::{Lock, LockWork};
-use seize_parts::numbers::Ending;
+use seize_parts::numbers::taking::end_slot;
 use seize_parts::reclaim::{Boxed, Reclaim};
 use seize_parts::reservation::Reservation;
 use seize_parts::shelf::Shelf;
@@ -110,14 +110,16 @@ impl<'c, T: Drop, R: Reclaim<T>> OwnedGuard<'c, T, R> {
         core.seen = seen;
     }
 
-    /// Leaves, and gives the slot's number back: what waited for the slot is counted down, and what is reclaimed in the call goes to the
-    /// reclaimer there. Then comes the event `Give`.
+    /// Leaves: what waited for the slot is counted down, and what is reclaimed in the call goes to the reclaimer there. Then the use of the
+    /// slot ends, as with `Registration::end`: it leaves its batch to whoever takes a number next, or, as the last one in use, attempts all
+    /// that was left.
     ///
     /// But for what the reclaimer does, it takes no memory. It takes no lock of the guard. At last it waits for other threads that
-    /// register or end. The slot's batch stays for the next one who has the number.
+    /// register or end.
     pub fn leave<W: Wait>(self, rt: &W, pass: &mut Pass)
         requires of { IsPassOf (owned_collector self) pass.old }
-        ensures { LeavesAndGives (PutBy T.row.coded.code R.puts) (owned_slot self.entry) pass.old pass.new }
+        ensures leaves { LeavesAndGives (PutBy T.row.coded.code R.puts) (owned_slot self.entry) pass.old pass.new }
+        ensures pass { IsPassOf (owned_collector self.entry) pass.new }
     {
         let OwnedGuard {
             core,
@@ -144,7 +146,7 @@ impl<'c, T: Drop, R: Reclaim<T>> OwnedGuard<'c, T, R> {
         leaving.work(&mut reservation, pass);
         let slot = reservation.slot;
         slot.seen().agree(&words.blocks.book);
-        collector.numbers.with(rt, Ending { words, slot }, pass);
+        end_slot(&collector.numbers, rt, words, collector.ender(), slot, pass);
     }
 
     /// Spends the guard without leaving. Its slot stays active, and its number in use, until `Collector::reclaim_all`,

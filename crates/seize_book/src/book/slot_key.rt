@@ -1,8 +1,10 @@
 //! The key of a slot, and the events that its holder makes of the slot itself. It is `Keys` with one key; they are added with a pass.
-ghost use Rattle.std.specs.Prelude.{◌≡◌, [], ◌∷◌, true, false, slice_set, IfSome, None, Some, is_some};
-ghost use Rattle.seize_machine.specs.Machine.State.{is_idle};
+ghost use Rattle.std.specs.Prelude.{◌≡◌, [], ◌∷◌, ◌++◌, get_or, length, true, false, slice_set, IfSome, None, Some, is_some};
+ghost use mathlib.Core.List.{IsPrefix};
+ghost use Rattle.seize_machine.specs.Machine.Next.{gathered_slot, taken_slot};
+ghost use Rattle.seize_machine.specs.Machine.State.{is_idle, no_slot};
 ghost use Rattle.seize_machine.specs.Machine.Event.{Begin, Detach, Give, Hand, Put, Return, Take};
-ghost use Rattle.seize_machine.specs.declared.machine.event.Job.TheVariants.{Flush, Leave, Refresh, Retire};
+ghost use Rattle.seize_machine.specs.declared.machine.event.Job.TheVariants.{Flush, Gather, Leave, Refresh, Retire};
 ghost use Rattle.seize_book.specs.Private.{IsOver, is_one, puts_next};
 ghost use Rattle.seize_book.specs.Book.{slots};
 
@@ -31,7 +33,7 @@ impl SlotKey {
     ghost use Rattle.seize_book.specs.Batches.{CanDetach, Detaches};
     ghost use Rattle.seize_book.specs.Kept.{kepts_of};
     ghost use Rattle.seize_book.specs.Values.{AreLast, AreOfBook, AreNew, AreSpent, FollowsValues, values_of};
-    ghost use Rattle.seize_book.specs.Others.{AreNumbersOf, CannotRetire, Follows, FollowsNumbers, FollowsValue, IsLast, IsOfBook, IsValueOf, IsWith, Knew, MayRetire, MayTakeNumber, SameKind, use_flags, value_of};
+    ghost use Rattle.seize_book.specs.Others.{AreNumbersOf, CannotRetire, Follows, FollowsNumbers, FollowsValue, IsLast, IsOfBook, IsValueOf, IsWith, Knew, MayGather, MayGive, MayRetire, MayTakeNumber, SameKind, numbers_saw, rest_of, use_flags, value_of};
     ghost use Rattle.seize_book.specs.Private.{IsOpen, IsPrivate};
     ghost use Rattle.seize_book.specs.Slots.{HandsOnce, LooksWithSlotKey, AddsEvent, AddsDeed, IsKeyOfBook, active_of, hands_next, slot_number, slot_of, start_of};
     ghost use Rattle.seize_book.specs.Tables.{IsLike, IsPlaced};
@@ -101,24 +103,46 @@ impl SlotKey {
         self.add_with::<Brand>(&mut value.keys, kept, pass);
     }
 
-    /// The event `Give`: the slot's number goes back.
+    /// The event `Give`: the slot's number goes back, and what is in its batch is left for whoever takes a number next. Another slot is
+    /// in use, or nothing is left.
     pub fn give(&mut self, numbers: &mut NumbersKey, pass: &mut Pass)
         requires book { IsKeyOfBook self.old pass.old × AreNumbersOf numbers.old pass.old }
         requires idle { (is_idle (slot_of self.old) ≡ true) × (active_of self.old ≡ false) }
-        ensures noted { AddsEvent self.old pass.old self.new pass.new (Give (slot_number self.old)) }
-        ensures numbers { FollowsNumbers numbers.old pass.new numbers.new }
+        requires may { MayGive numbers.old self.old }
+        ensures noted { AddsEvent self.old pass.old self.new pass.new (Give (slot_number self.old)) × (slot_of self.new ≡ no_slot) }
+        ensures numbers { FollowsNumbers numbers.old pass.new numbers.new × IsPrefix (numbers_saw numbers.old) pass.new.seen }
+        ensures was { get_or (use_flags numbers.old) (slot_number self.old) false ≡ true }
         ensures used { use_flags numbers.new ≡ slice_set (use_flags numbers.old) (slot_number self.old) false }
+        ensures rest { rest_of numbers.new ≡ rest_of numbers.old ++ (slot_of self.old).batch }
     {
         self.add_with::<Brand>(&mut numbers.keys, 0, pass);
     }
 
-    /// The event `Take` of a number that was in use before: the slot, which is there, is in use again.
+    /// The event `Take` of a number that was in use before: the slot, which is there, is in use again, and what slots left is its batch.
+    /// Where that has as many values as the batch size says, a call is under way, which attempts it.
     pub fn take_again(&mut self, numbers: &mut NumbersKey, pass: &mut Pass)
         requires book { IsKeyOfBook self.old pass.old × AreNumbersOf numbers.old pass.old }
         requires least { MayTakeNumber numbers.old self.old }
         ensures noted { AddsEvent self.old pass.old self.new pass.new (Take (slot_number self.old)) }
-        ensures numbers { FollowsNumbers numbers.old pass.new numbers.new }
+        ensures slot { slot_of self.new ≡ taken_slot pass.old.size (length (use_flags numbers.old)) (rest_of numbers.old) }
+        ensures numbers { FollowsNumbers numbers.old pass.new numbers.new × IsPrefix (numbers_saw numbers.old) pass.new.seen }
+        ensures rest { rest_of numbers.new ≡ [] }
         ensures used { use_flags numbers.new ≡ slice_set (use_flags numbers.old) (slot_number self.old) true }
+    {
+        self.add_with::<Brand>(&mut numbers.keys, 0, pass);
+    }
+
+    /// The event `Begin` of a gathering: what slots left comes before the slot's batch, and is attempted with it. No other slot is in use,
+    /// and there is something to attempt.
+    pub fn begin_gather(&mut self, numbers: &mut NumbersKey, pass: &mut Pass)
+        requires book { IsKeyOfBook self.old pass.old × AreNumbersOf numbers.old pass.old }
+        requires idle { (is_idle (slot_of self.old) ≡ true) × (active_of self.old ≡ false) }
+        requires may { MayGather numbers.old self.old }
+        ensures noted { AddsEvent self.old pass.old self.new pass.new (Begin (slot_number self.old) Gather) }
+        ensures slot { slot_of self.new ≡ gathered_slot (length (use_flags numbers.old)) (rest_of numbers.old ++ (slot_of self.old).batch) }
+        ensures numbers { FollowsNumbers numbers.old pass.new numbers.new × IsPrefix (numbers_saw numbers.old) pass.new.seen }
+        ensures rest { rest_of numbers.new ≡ [] }
+        ensures used { use_flags numbers.new ≡ use_flags numbers.old }
     {
         self.add_with::<Brand>(&mut numbers.keys, 0, pass);
     }

@@ -3,8 +3,10 @@ use super::marks;
 use crate::apart::Apart;
 use crate::counting::Counting;
 use crate::guest::Guest;
-use crate::hall::AnyCode;
+use crate::hall::{AnyCode, Source, open};
+use crate::putting::Fresh;
 use seize_calls::further::Further;
+use seize_calls::manner::{Alone, Beside};
 use seize_words::words::Words;
 use std::alloc::Global;
 use std::test::*;
@@ -21,16 +23,21 @@ fn a_number_goes_back_and_is_taken_again(rt: HostRuntime) {
     };
     porter.leave_home();
     let mut counting = Counting::new(marks.as_slice());
+    let manner = Beside { rt: &rt };
     let mut pass = porter.pass();
     let Some(mut guest) = Guest::new(&words, rt.alloc(), next, numbers, &mut pass) else {
         panic!(rt; "no memory");
     };
     guest.visit(&words, &mut counting, &mut pass, &rt);
-    guest.go(&words, &mut pass);
-    guest.come(&words, &mut pass);
+    if !guest.go(&words, &mut counting, &mut pass, &manner) {
+        panic!(rt; "something is left");
+    }
+    guest.come(&words, &mut counting, &mut pass, &manner);
     guest.visit(&words, &mut counting, &mut pass, &rt);
-    guest.go(&words, &mut pass);
-    guest.come(&words, &mut pass);
+    if !guest.go(&words, &mut counting, &mut pass, &manner) {
+        panic!(rt; "something is left");
+    }
+    guest.come(&words, &mut counting, &mut pass, &manner);
     drop(pass);
     let mut first = porter.shut();
     let chain = Further::new(&mut first);
@@ -39,6 +46,38 @@ fn a_number_goes_back_and_is_taken_again(rt: HostRuntime) {
         chain,
     };
     guest.visit_alone(&words, &mut apart, &mut first);
-    guest.go(&words, &mut first);
-    assert_eq!(rt; (guest.slot.number(), apart.inner.count), (0, 0));
+    let went = guest.go(&words, &mut apart, &mut first, &Alone {});
+    assert_eq!(rt;
+        (went, guest.slot.number(), apart.inner.count),
+        (true, 0, 0)
+    );
+}
+
+// A batch of three has one value when its slot is to end. No other slot is in use, so the value goes to its reclaimer before the number
+// goes back.
+#[test]
+fn what_is_left_goes_before_the_number(rt: HostRuntime) -> Result<(), Fail> {
+    let marks = marks(rt.alloc(), 6)?;
+    let (hall, source) = open(rt.alloc(), 3)?;
+    let loose = Fresh::new(&hall, 5)?.loose(&hall);
+    let Source { numbers, next, .. } = source;
+    let mut counting = Counting::new(marks.as_slice());
+    let manner = Beside { rt: &rt };
+    let mut pass = hall.porter.pass();
+    let made = Guest::new(&hall.words, rt.alloc(), next, numbers, &mut pass);
+    let Some(mut guest) = made else {
+        panic!(rt; "no memory");
+    };
+    guest.shed(&hall.words, loose, &mut counting, &mut pass, &manner);
+    assert_eq!(rt; counting.count, 0);
+    if guest.go(&hall.words, &mut counting, &mut pass, &manner) {
+        panic!(rt; "the number went first");
+    }
+    assert_eq!(rt; (counting.count, counting.last), (1, 5));
+    if !guest.go(&hall.words, &mut counting, &mut pass, &manner) {
+        panic!(rt; "something is left");
+    }
+    guest.come(&hall.words, &mut counting, &mut pass, &manner);
+    assert_eq!(rt; counting.count, 1);
+    Ok(())
 }

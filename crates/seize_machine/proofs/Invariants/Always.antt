@@ -1,17 +1,17 @@
 -- What holds before and after every event of a list that began at an opening state.
-use Rattle.std.proofs.Common.{◌≡◌, ℕ, zero, suc, ◌+◌, ◌≤◌, true, ◌==◌, List, [], ◌∷◌, length, replicate, Option, Some, refl, sym, ◌∙◌, ap, subst, arith}
+use Rattle.std.proofs.Common.{◌≡◌, ℕ, zero, suc, ◌+◌, ◌≤◌, true, ◌==◌, List, [], ◌∷◌, length, replicate, Option, Some, refl, sym, ◌∙◌, ap, subst, arith, ◌⊎◌, inl, inr, nat_lt, get_or, ◌<◌, false, Bool}
 use Rattle.std.specs.Prelude.{option_to_list}
 use Rattle.std.specs.List.{sum_by}
 use Rattle.std.proofs.lemmas.Int.{ints}
-use Rattle.std.proofs.lemmas.List.{length-set, length_push, length-replicate}
+use Rattle.std.proofs.lemmas.List.{length-set, length_push, length-replicate, get_or-replicate, get_or_past}
 use Rattle.std.proofs.lemmas.List.Sums.{sum_by-cons, get_or-le-sum_by}
 use Rattle.seize_machine.specs.Machine.State.{no_slot, State, Slot, Head, Inactive, waiting_at, linked_values, are_distinct, opening}
 use Rattle.seize_machine.specs.Machine.Event.{Event}
 use Rattle.seize_machine.specs.Machine.History.{handed_value}
 use Rattle.seize_machine.specs.declared.machine.event.Answer.{Answer}
-use Rattle.seize_machine.proofs.Steps.Relation.{Step, some_is}
+use Rattle.seize_machine.proofs.Steps.Relation.{Step, some_is, is_true, lt_true}
 use Rattle.seize_machine.proofs.Counting.Sums.{one, occ, occ-append, occ-push, distinct_once}
-use Rattle.seize_machine.proofs.Invariants.Counts.{CountedIn, counted_step, of_calls, owns, wins, walks, in_range}
+use Rattle.seize_machine.proofs.Invariants.Counts.{CountedIn, counted_step, of_calls, owns, wins, walks, in_range, free_step}
 use Rattle.seize_machine.proofs.Invariants.Once.{Once, once_step, in_links, slot_has}
 use Rattle.seize_machine.proofs.Invariants.Kept.{Sound, given}
 
@@ -28,8 +28,8 @@ lengths_step size st event _ _ h = omega (arith, length-set {A = Slot}, length-s
 pub inv_step : (size : ℕ) (st : State) (event : Event) (d : State × Answer) → Step size st event d → Inv st → Inv d.0
 inv_step size st event d step i =
     record {
-      sound = record { counts = λ b. counted_step b size st event d step (i.sound.counts b); lengths = lengths_step size st event d step i.sound.lengths };
-      once = λ v. once_step v size st event d step (i.once v);
+      sound = record { counts = λ b. counted_step b size st event d i.sound.free step (i.sound.counts b); lengths = lengths_step size st event d step i.sound.lengths; free = free_step size st event d step i.sound.free };
+      once = λ v. once_step v size st event d i.sound.free step (i.once v);
     }
 
 -- a value that is handed was given up before
@@ -68,10 +68,14 @@ in_links_is v (link ∷ links) = omega (arith, sum_by-cons (λ link. occ v (opti
 pub opening_inv : (slots : ℕ) (links : List (Option ℕ)) → are_distinct (linked_values links) ≡ true → Inv (opening slots links)
 opening_inv slots links distinct =
     record {
-      sound = record { counts = λ b. counts b; lengths = length-replicate slots Inactive ∙ sym (length-replicate slots no_slot) };
+      sound = record { counts = λ b. counts b; lengths = length-replicate slots Inactive ∙ sym (length-replicate slots no_slot); free = λ s e. none s (is_true (nat_lt s slots)) };
       once = λ v. record { once = omega (arith, sum_replicate (slot_has v) slots no_slot refl, in_links_is v links, distinct_once v (linked_values links) distinct); all = omega (arith, sum_replicate (slot_has v) slots no_slot refl, in_links_is v links) };
     }
   where
+    none : (s : ℕ) → (nat_lt s slots ≡ true) ⊎ (nat_lt s slots ≡ false) → get_or (replicate slots no_slot) s no_slot ≡ no_slot
+    none s (inl h) = get_or-replicate slots s no_slot no_slot (lt_true _ _ h)
+    none s (inr h) = let past : slots ≤ s = grind arith in get_or_past (replicate slots no_slot) s no_slot (omega (arith, length-replicate slots no_slot))
+
     counts : (b : ℕ) → CountedIn b (opening slots links)
     counts b =
         let x : _ ≡ _ = sum_replicate (λ slot. walks b slot.call) slots no_slot refl in

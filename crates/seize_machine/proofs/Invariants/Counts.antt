@@ -7,9 +7,9 @@ use Rattle.std.proofs.lemmas.List.{get_or-set_same, get_or-set_other, get_or_pas
 use Rattle.std.proofs.lemmas.List.Sums.{sum_by-set, sum_by_push, get_or-le-sum_by}
 use Rattle.seize_machine.specs.Machine.State.{no_slot, no_batch, State, Slot, Batch, Progress, Head, Inactive, Active, Place, Mark, Look, Try, Add, Rest, slot_at, head_at, batch_at, is_active, waiting_at, is_idle}
 use Rattle.seize_machine.specs.Machine.Event.{Event}
-use Rattle.seize_machine.specs.Machine.Next.{next, look, marked_place, looked, is_zero}
+use Rattle.seize_machine.specs.Machine.Next.{next, look, marked_place, looked, is_zero, taken_slot, taken_call}
 use Rattle.seize_machine.specs.declared.machine.event.Answer.{Answer}
-use Rattle.seize_machine.proofs.Steps.Relation.{Step, Stands, is_true, eq_true, lt_true, some_is}
+use Rattle.seize_machine.proofs.Steps.Relation.{Step, Stands, is_true, eq_true, lt_true, some_is, taken}
 use Rattle.seize_machine.proofs.Counting.Sums.{one, occ, sum_alone, sum_nothing}
 
 abbrev pub place_walks : ℕ → Place → ℕ
@@ -67,6 +67,10 @@ idle_range st s e = grind (arith, get_or_past st.slots s no_slot)
 
 pub idle_call : (slot : Slot) → is_idle slot ≡ true → slot.call ≡ None
 idle_call slot e = grind arith
+
+-- a slot whose number is free has no batch and no call
+abbrev pub Free : State → Type 0
+Free st = (s : ℕ) → (slot_at st s).used ≡ false → slot_at st s ≡ no_slot
 
 pub change : (f : Option Progress → ℕ) (st : State) (s : ℕ) (new : Slot) (o : Option Progress) → s < length st.slots → (slot_at st s).call ≡ o → of_calls f (set st.slots s new) + f o ≡ of_calls f st.slots + f new.call
 change f st s new o h e = rw (← e) (sum_by-set (λ slot. f slot.call) st.slots s new no_slot h)
@@ -330,40 +334,54 @@ off_none : (b : ℕ) (head : Head) → is_active head ≡ false → occ b (waiti
 off_none b Inactive e = refl
 off_none b (Active waiting) e = absurd (cc)
 
-pub counted_step : (b size : ℕ) (st : State) (event : Event) (d : State × Answer) → Step size st event d → CountedIn b st → CountedIn b d.0
-counted_step b size st event _ (Step.took_new s e least) c =
-    let x : _ ≡ _ = sum_by_push (λ slot. walks b slot.call) st.slots (record { used = true; batch = []; call = None }) in
-    let y : _ ≡ _ = sum_by_push (λ slot. owns b slot.call) st.slots (record { used = true; batch = []; call = None }) in
-    let z : _ ≡ _ = sum_by_push (λ slot. wins b slot.call) st.slots (record { used = true; batch = []; call = None }) in
+taken_counts : (b size n : ℕ) (rest : List ℕ) → (walks b (taken_call size n rest) ≡ 0) × (owns b (taken_call size n rest) ≡ 0) × (wins b (taken_call size n rest) ≡ 0)
+taken_counts b size n rest = taken (λ o. (walks b o ≡ 0) × (owns b o ≡ 0) × (wins b o ≡ 0)) size n rest (λ h. (refl, refl, refl)) (λ h. (refl, refl, refl))
+
+pub counted_step : (b size : ℕ) (st : State) (event : Event) (d : State × Answer) → Free st → Step size st event d → CountedIn b st → CountedIn b d.0
+counted_step b size st event _ free (Step.took_new s e least) c =
+    let new : Slot = taken_slot size (length st.slots + 1) st.rest in
+    let q : (walks b new.call ≡ 0) × (owns b new.call ≡ 0) × (wins b new.call ≡ 0) = taken_counts b size (length st.slots + 1) st.rest in
+    let x : _ ≡ _ = sum_by_push (λ slot. walks b slot.call) st.slots new in
+    let y : _ ≡ _ = sum_by_push (λ slot. owns b slot.call) st.slots new in
+    let z : _ ≡ _ = sum_by_push (λ slot. wins b slot.call) st.slots new in
     let l : _ ≡ _ = sum_by_push (λ head. occ b (waiting_at head)) st.heads Inactive in
-    record { balance = omega (arith, ints); alone = omega arith; few = omega arith; fresh = omega arith; held = λ h. omega (arith, c.held h) }
-counted_step b size st event _ (Step.took_old s r e least) c = same_counts b st s (record (slot_at st s) { used = true }) (slot_at st s).call r refl refl refl refl c
-counted_step b size st event _ (Step.gave s e off) c = same_counts b st s (record (slot_at st s) { used = false }) (slot_at st s).call (idle_range st s e) refl refl refl refl c
-counted_step b size st event _ (Step.entered s e off) c =
+    record {
+      balance = omega (arith, ints, q.0, q.1, q.2);
+      alone = omega (arith, q.0, q.1, q.2);
+      few = omega (arith, q.0, q.1, q.2);
+      fresh = omega (arith, q.0, q.1, q.2);
+      held = λ h. omega (arith, c.held h);
+    }
+counted_step b size st event _ free (Step.took_old s r e least) c =
+    let q : _ × _ × _ = taken_counts b size (length st.slots) st.rest in
+    same_counts b st s (taken_slot size (length st.slots) st.rest) None r (ap (λ (slot : Slot). slot.call) (free s e)) q.0 q.1 q.2 c
+counted_step b size st event _ free (Step.gave s e off ends) c = same_counts b st s no_slot None (idle_range st s e) (idle_call (slot_at st s) e) refl refl refl c
+counted_step b size st event _ free (Step.gathered s e off lone some) c = same_counts b st s _ None (idle_range st s e) (idle_call (slot_at st s) e) refl refl refl c
+counted_step b size st event _ free (Step.entered s e off) c =
     let l : _ ≡ _ = emptied b st s (Active []) refl in
     let old : occ b (waiting_at (head_at st s)) ≡ 0 = off_none b (head_at st s) off in
     record { balance = omega (arith, ints); alone = omega arith; few = omega arith; fresh = omega arith; held = λ h. omega (arith, c.held h) }
-counted_step b size st event _ (Step.begun_retire s v e new) c = same_counts b st s _ None (idle_range st s e) (idle_call (slot_at st s) e) refl refl refl c
-counted_step b size st event _ (Step.begun_other s job place e which exact) c =
+counted_step b size st event _ free (Step.begun_retire s v e new) c = same_counts b st s _ None (idle_range st s e) (idle_call (slot_at st s) e) refl refl refl c
+counted_step b size st event _ free (Step.begun_other s job place e which exact) c =
     let q : (place_walks b place ≡ 0) × (place_owns b place ≡ 0) × (place_won b place ≡ 0) = grind arith in
     same_counts b st s _ None (idle_range st s e) (idle_call (slot_at st s) e) q.0 q.1 q.2 c
-counted_step b size st event _ (Step.put s v from before after place e which to after_is) c =
+counted_step b size st event _ free (Step.put s v from before after place e which to after_is) c =
     let p : (place_walks b from ≡ 0) × (place_owns b from ≡ 0) × (place_won b from ≡ 0) = grind arith in
     let q : (place_walks b place ≡ 0) × (place_owns b place ≡ 0) × (place_won b place ≡ 0) = grind arith in
     same_counts b st s _ _ (in_range st s _ e) e (q.0 ∙ sym p.0) (q.1 ∙ sym p.1) (q.2 ∙ sym p.2) c
-counted_step b size st event _ (Step.marked s n next note marks queue e r k) c =
+counted_step b size st event _ free (Step.marked s n next note marks queue e r k) c =
     let q : _ × _ × _ = place_quiet b (is_active (head_at st n)) n note marks (slot_at st s).batch in
     same_counts b st s _ _ (in_range st s _ e) e q.0 q.1 q.2 c
-counted_step b size st event _ (Step.looked_at s a won m later queue e) c =
+counted_step b size st event _ free (Step.looked_at s a won m later queue e) c =
     let q : _ × _ × _ = looked_same b (head_at st m) a won m later in
     same_counts b st s _ _ (in_range st s _ e) e q.0 q.1 q.2 c
-counted_step b size st event _ (Step.detached s next note marks queue e le) c = detached_count b st s next note marks queue e c
-counted_step b size st event _ (Step.inserted s m a won later saw queue waiting e head_is) c = inserted_count b st s m a won later saw queue waiting e head_is c
-counted_step b size st event _ (Step.lost s m a won later saw queue e differs) c =
+counted_step b size st event _ free (Step.detached s next note marks queue e le) c = detached_count b st s next note marks queue e c
+counted_step b size st event _ free (Step.inserted s m a won later saw queue waiting e head_is) c = inserted_count b st s m a won later saw queue waiting e head_is c
+counted_step b size st event _ free (Step.lost s m a won later saw queue e differs) c =
     same_counts b st s _ _ (in_range st s _ e) e refl refl refl c
-counted_step b size st event _ (Step.added s a won queue d e h) c = subst (λ d. CountedIn b d.0) (some_is _ _ h) (added_count b st s a won queue _ _ (emptied_values (is_zero ((batch_at st a).count +ℤ pos won)) _) e c)
-counted_step b size st event _ (Step.subtracted s a walk queue d e h) c = subst (λ d. CountedIn b d.0) (some_is _ _ h) (subtracted_count b st s a walk queue _ _ (emptied_values (is_zero ((batch_at st a).count -ℤ pos 1)) _) e c)
-counted_step b size st event _ (Step.swapped_out s stays queue e) c =
+counted_step b size st event _ free (Step.added s a won queue d e h) c = subst (λ d. CountedIn b d.0) (some_is _ _ h) (added_count b st s a won queue _ _ (emptied_values (is_zero ((batch_at st a).count +ℤ pos won)) _) e c)
+counted_step b size st event _ free (Step.subtracted s a walk queue d e h) c = subst (λ d. CountedIn b d.0) (some_is _ _ h) (subtracted_count b st s a walk queue _ _ (emptied_values (is_zero ((batch_at st a).count -ℤ pos 1)) _) e c)
+counted_step b size st event _ free (Step.swapped_out s stays queue e) c =
     let new : Slot = record (slot_at st s) { call = Some (record { place = Rest [] (waiting_at (head_at st s)); queue = queue }) } in
     let l : _ ≡ _ = emptied b st s (if stays then Active [] else Inactive) (none_in stays) in
     let x : _ ≡ _ = change (walks b) st s new _ (in_range st s _ e) e in
@@ -374,10 +392,61 @@ counted_step b size st event _ (Step.swapped_out s stays queue e) c =
     none_in : (stays : Bool) → occ b (waiting_at (if stays then Active [] else Inactive)) ≡ 0
     none_in true = refl
     none_in false = refl
-counted_step b size st event _ (Step.handed s v puts given walk queue e new) c =
+counted_step b size st event _ free (Step.handed s v puts given walk queue e new) c =
     same_counts b st s _ _ (in_range st s _ e) e refl refl refl c
-counted_step b size st event _ (Step.returned s e) c =
+counted_step b size st event _ free (Step.returned s e) c =
     same_counts b st s _ _ (in_range st s _ e) e refl refl refl c
-counted_step b size st event _ (Step.read s l e) c = c
-counted_step b size st event _ (Step.exchanged s l exchange new e fresh exact) c = c
-counted_step b size st event _ (Step.compared s l exchange e exact) c = c
+counted_step b size st event _ free (Step.read s l e) c = c
+counted_step b size st event _ free (Step.exchanged s l exchange new e fresh exact) c = c
+counted_step b size st event _ free (Step.compared s l exchange e exact) c = c
+
+-- a slot whose number is free stays as it is, and one that is given back has no batch
+busy : {A : Type 0} (st : State) (s : ℕ) (place : Place) (queue : List ℕ) → Free st → Stands st s place queue → (slot_at st s).used ≡ false → A
+busy st s place queue free e off = absurd (let k : Option.None ≡ Some (record { place = place; queue = queue }) = sym (ap (λ (slot : Slot). slot.call) (free s off)) ∙ e in cc)
+
+idle_used : (slot : Slot) → is_idle slot ≡ true → slot.used ≡ true
+idle_used slot e = grind arith
+
+abbrev IsFreed : Slot → Type 0
+IsFreed slot = slot.used ≡ false → slot ≡ no_slot
+
+free_set : (st : State) (s : ℕ) (new : Slot) → Free st → (new.used ≡ false → new ≡ no_slot) → (t : ℕ) → IsFreed (get_or (set st.slots s new) t no_slot)
+free_set st s new free h t = go (is_true (s == t)) (is_true (nat_lt s (length st.slots)))
+  where
+    go : ((s == t) ≡ true) ⊎ ((s == t) ≡ false) → (nat_lt s (length st.slots) ≡ true) ⊎ (nat_lt s (length st.slots) ≡ false) → IsFreed (get_or (set st.slots s new) t no_slot)
+    go (inl i) (inl r) = rw (← eq_true s t i) (rw (get_or-set_same st.slots s new no_slot (lt_true _ _ r)) h)
+    go (inl i) (inr r) = let past : length st.slots ≤ s = grind arith in rw (set_past st.slots s new past) (free t)
+    go (inr i) r = let other : t ≢ s = grind arith in rw (get_or-set_other st.slots s t new no_slot other) (free t)
+
+on : (used : Bool) (slot : Slot) → used ≡ true → used ≡ false → slot ≡ no_slot
+on used slot e off = absurd (let k : true ≡ false = sym e ∙ off in cc)
+
+pub free_step : (size : ℕ) (st : State) (event : Event) (d : State × Answer) → Step size st event d → Free st → Free d.0
+free_step size st event _ (Step.took_new s e least) free = λ t. go t (is_true (length st.slots == t))
+  where
+    new : Slot
+    new = taken_slot size (length st.slots + 1) st.rest
+
+    go : (t : ℕ) → ((length st.slots == t) ≡ true) ⊎ ((length st.slots == t) ≡ false) → IsFreed (get_or (st.slots ++ new ∷ []) t no_slot)
+    go t (inl i) = rw (get_or_push st.slots new no_slot t (eq_true _ _ i)) (on true new refl)
+    go t (inr i) = let other : length st.slots ≢ t = grind arith in rw (get_or_push_other st.slots new no_slot t other) (free t)
+free_step size st event _ (Step.took_old s r e least) free = free_set st s _ free (on true _ refl)
+free_step size st event _ (Step.gave s e off ends) free = free_set st s no_slot free (λ h. refl)
+free_step size st event _ (Step.gathered s e off lone some) free = free_set st s _ free (on true _ refl)
+free_step size st event _ (Step.entered s e off) free = free
+free_step size st event _ (Step.begun_retire s v e new) free = free_set st s _ free (on _ _ (idle_used (slot_at st s) e))
+free_step size st event _ (Step.begun_other s job place e which exact) free = free_set st s _ free (on _ _ (idle_used (slot_at st s) e))
+free_step size st event _ (Step.put s v from before after place e which to after_is) free = free_set st s _ free (busy st s _ _ free e)
+free_step size st event _ (Step.marked s n next note marks queue e r k) free = free_set st s _ free (busy st s _ _ free e)
+free_step size st event _ (Step.looked_at s a won m later queue e) free = free_set st s _ free (busy st s _ _ free e)
+free_step size st event _ (Step.detached s next note marks queue e le) free = free_set st s _ free (busy st s _ _ free e)
+free_step size st event _ (Step.inserted s m a won later saw queue waiting e head_is) free = free_set st s _ free (busy st s _ _ free e)
+free_step size st event _ (Step.lost s m a won later saw queue e differs) free = free_set st s _ free (busy st s _ _ free e)
+free_step size st event _ (Step.added s a won queue d e h) free = subst (λ (x : State × Answer). Free x.0) (some_is _ _ h) (free_set st s _ free (busy st s _ _ free e))
+free_step size st event _ (Step.subtracted s a walk queue d e h) free = subst (λ (x : State × Answer). Free x.0) (some_is _ _ h) (free_set st s _ free (busy st s _ _ free e))
+free_step size st event _ (Step.swapped_out s stays queue e) free = free_set st s _ free (busy st s _ _ free e)
+free_step size st event _ (Step.handed s v puts given walk queue e new) free = free_set st s _ free (busy st s _ _ free e)
+free_step size st event _ (Step.returned s e) free = free_set st s _ free (busy st s _ _ free e)
+free_step size st event _ (Step.read s l e) free = free
+free_step size st event _ (Step.exchanged s l exchange new e fresh exact) free = free
+free_step size st event _ (Step.compared s l exchange e exact) free = free

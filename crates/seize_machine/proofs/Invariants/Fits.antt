@@ -1,12 +1,12 @@
 -- What bounds the batches of slots, the marks and the insertions.
-use Rattle.std.proofs.Common.{◌≡◌, ℕ, ◌+◌, ◌<◌, ◌≤◌, max, Bool, true, false, if◌then◌else◌, nat_lt, List, [], ◌∷◌, ◌++◌, length, get_or, set, Option, Some, None, refl, sym, subst, ◌⊎◌, inl, inr, arith}
+use Rattle.std.proofs.Common.{◌≡◌, ℕ, ◌+◌, ◌<◌, ◌≤◌, max, Bool, true, false, not, if◌then◌else◌, nat_lt, List, [], ◌∷◌, ◌++◌, length, get_or, set, Option, Some, None, refl, sym, subst, ◌⊎◌, inl, inr, arith}
 use Rattle.std.proofs.lemmas.List.{length-set, length_push}
 use Rattle.seize_machine.specs.Machine.State.{no_slot, State, Slot, Progress, Head, Inactive, Active, Place, Append, Mark, Look, Try, Add, Out, Rest, slot_at, head_at, is_active}
 use Rattle.seize_machine.specs.Machine.Event.{Event}
-use Rattle.seize_machine.specs.Machine.Next.{look, marked_place, looked}
-use Rattle.seize_machine.specs.Machine.Laws.{is_put}
+use Rattle.seize_machine.specs.Machine.Next.{is_empty, look, marked_place, looked, taken_slot, taken_call}
+use Rattle.seize_machine.specs.Machine.Laws.{fills}
 use Rattle.seize_machine.specs.declared.machine.event.Answer.{Answer}
-use Rattle.seize_machine.proofs.Steps.Relation.{Step, some_is}
+use Rattle.seize_machine.proofs.Steps.Relation.{Step, some_is, taken}
 use Rattle.seize_machine.proofs.Invariants.Counts.{idle_call}
 use Rattle.seize_machine.proofs.Invariants.Kept.{at_set, pushed, starts}
 
@@ -69,11 +69,19 @@ marked_fits k n i next note true marks batch r at le = go (nat_lt (length marks)
 next_at : (n next note : ℕ) → (n ≡ next) ⊎ ((note ≤ next) × (next < n)) → next ≤ n
 next_at n next note at = grind arith
 
--- where k is at least 1, and at least the size if the event is a put
-pub fits_step : (k size : ℕ) (st : State) (event : Event) (d : State × Answer) → Step size st event d → 1 ≤ k → (is_put event ≡ true → size ≤ k) → Fits k st → Fits k d.0
-fits_step k size st event _ (Step.took_new s e least) one small c = λ t. rw (length_push st.slots (record { used = true; batch = []; call = None })) (pushed (SlotFits k (length st.slots + 1)) st.slots t (record { used = true; batch = []; call = None }) no_slot (λ same. omega arith) (wider k (length st.slots) _ _ (c t)))
-fits_step k size st event _ (Step.took_old s r e least) one small c = fits_set k st s (record (slot_at st s) { used = true }) c (c s)
-fits_step k size st event _ (Step.gave s e off) one small c = fits_set k st s (record (slot_at st s) { used = false }) c (c s)
+taken_fits : (k size n : ℕ) (rest : List ℕ) → 1 ≤ k → (not (is_empty rest) ≡ true → size ≤ k) → SlotFits k n (taken_slot size n rest)
+taken_fits k size n [] one small = taken (CallFits k n 0) size n [] (λ h. omega arith) (λ h. (omega arith, omega arith))
+taken_fits k size n (v ∷ vs) one small =
+    let within : size ≤ k = small refl in taken (CallFits k n (length (v ∷ vs))) size n (v ∷ vs) (λ h. omega arith) (λ h. (omega arith, omega arith))
+
+-- where k is at least 1, and at least the size if a batch may be full by it after the event
+pub fits_step : (k size : ℕ) (st : State) (event : Event) (d : State × Answer) → Step size st event d → 1 ≤ k → (fills st event ≡ true → size ≤ k) → Fits k st → Fits k d.0
+fits_step k size st event _ (Step.took_new s e least) one small c = λ t.
+    let new : Slot = taken_slot size (length st.slots + 1) st.rest in
+    rw (length_push st.slots new) (pushed (SlotFits k (length st.slots + 1)) st.slots t new no_slot (λ same. taken_fits k size (length st.slots + 1) st.rest one small) (wider k (length st.slots) _ _ (c t)))
+fits_step k size st event _ (Step.took_old s r e least) one small c = fits_set k st s (taken_slot size (length st.slots) st.rest) c (taken_fits k size (length st.slots) st.rest one small)
+fits_step k size st event _ (Step.gave s e off ends) one small c = fits_set k st s no_slot c (omega arith)
+fits_step k size st event _ (Step.gathered s e off lone some) one small c = fits_set k st s _ c (omega arith, omega arith)
 fits_step k size st event _ (Step.entered s e off) one small c = c
 fits_step k size st event _ (Step.begun_retire s w e new) one small c = fits_set k st s (record (slot_at st s) { call = Some (record { place = Append w; queue = [] }) }) c (rw (idle_call (slot_at st s) e) at (c s))
 fits_step k size st event _ (Step.begun_other s job place e which exact) one small c =

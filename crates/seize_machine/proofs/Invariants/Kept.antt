@@ -6,15 +6,16 @@ use Rattle.std.proofs.lemmas.List.{get_or-set_same, get_or-set_other, get_or_pas
 use Rattle.std.proofs.lemmas.List.Sums.{sum_by_push, get_or-le-sum_by}
 use Rattle.seize_machine.specs.Machine.State.{no_slot, no_batch, State, Slot, Progress, Head, Inactive, Active, Place, Append, Mark, Look, Try, Add, Out, Rest, slot_at, head_at, batch_at, is_active, waiting_at}
 use Rattle.seize_machine.specs.Machine.Event.{Event, SwapOut}
-use Rattle.seize_machine.specs.Machine.Next.{look, marked_place, looked, is_zero}
+use Rattle.seize_machine.specs.Machine.Next.{look, marked_place, looked, is_zero, taken_slot, taken_call}
 use Rattle.seize_machine.specs.declared.machine.event.Answer.{Answer}
-use Rattle.seize_machine.proofs.Steps.Relation.{Step, Stands, is_true, eq_true, lt_true, some_is}
+use Rattle.seize_machine.proofs.Steps.Relation.{Step, Stands, is_true, eq_true, lt_true, some_is, taken}
 use Rattle.seize_machine.proofs.Counting.Sums.{one, occ, occ-push, sum_alone, sum_nothing}
-use Rattle.seize_machine.proofs.Invariants.Counts.{Counted, CountedIn, of_calls, owns, place_owns, wins, walks, listed, change, in_range, idle_range, idle_call, get_or_push_other, owns-wins, wins_alone, head_range}
+use Rattle.seize_machine.proofs.Invariants.Counts.{Counted, CountedIn, of_calls, owns, place_owns, wins, walks, listed, change, in_range, idle_range, idle_call, get_or_push_other, owns-wins, wins_alone, head_range, Free}
 
 pub record Sound (st : State) : Type 0 where
   pub counts : (b : ℕ) → CountedIn b st
   pub lengths : length st.heads ≡ length st.slots
+  pub free : Free st
 
 -- an element after a write
 pub at_set : {X : Type 0} (P : X → Type 0) (xs : List X) (i j : ℕ) (y d : X) → (i ≡ j → i < length xs → P y) → P (get_or xs j d) → P (get_or (set xs i y) j d)
@@ -293,20 +294,32 @@ inserted_kept s v st i m a won later saw queue waiting e head_is c =
             let other : s ≢ m = grind arith in
             rw (get_or-set_other st.heads m s (Active (a ∷ waiting)) Inactive other) (omega (arith, lefts b))
 
+-- a slot that takes a number gives nothing up and inserts nothing, and will mark s if it reads the heads
+abbrev Calm : ℕ → ℕ → Option Progress → Type 0
+Calm s v o = (given v o ≡ 0) × Marks s o × ((b : ℕ) → inserts_left b s o ≡ 0)
+
+taken_calm : (s v size n : ℕ) (rest : List ℕ) → s < n → Calm s v (taken_call size n rest)
+taken_calm s v size n rest r = taken (Calm s v) size n rest (λ h. (refl, tt, λ b. refl)) (λ h. (refl, (r, λ h. absurd (omega arith)), λ b. refl))
+
 pub kept_step : (s v size : ℕ) (st : State) (event : Event) (d : State × Answer) → Step size st event d → event ≢ SwapOut s → Sound st → KeptIn s v st → KeptIn s v d.0
 kept_step s v size st event _ (Step.took_new i e least) stays sound c =
     let r : s < length st.heads = omega (arith, sound.lengths, in_slots_range s st sound c.active) in
     let same : get_or (st.heads ++ Inactive ∷ []) s Inactive ≡ get_or st.heads s Inactive = get_or_append_left st.heads (Inactive ∷ []) Inactive s r in
-    let new : Slot = record { used = true; batch = []; call = None } in
+    let new : Slot = taken_slot size (length st.slots + 1) st.rest in
+    let q : Calm s v new.call = taken_calm s v size (length st.slots + 1) st.rest (omega (arith, sound.lengths)) in
     record {
       active = rw same c.active;
-      not_given = omega (arith, sum_by_push (λ slot. given v slot.call) st.slots new, c.not_given);
+      not_given = omega (arith, sum_by_push (λ slot. given v slot.call) st.slots new, c.not_given, q.0);
       not_gone = c.not_gone;
-      marks = λ t. pushed (λ slot. 1 ≤ occ v slot.batch → Marks s slot.call) st.slots t new no_slot (λ same h. tt) (c.marks t);
+      marks = λ t. pushed (λ slot. 1 ≤ occ v slot.batch → Marks s slot.call) st.slots t new no_slot (λ same h. q.1) (c.marks t);
       waits = λ b h. rw same (omega (arith, sum_by_push (λ slot. inserts_left b s slot.call) st.slots new, c.waits b h));
     }
-kept_step s v size st event _ (Step.took_old i r e least) stays sound c = keeps s v st i (record (slot_at st i) { used = true }) (slot_at st i).call r refl refl (c.marks i) (λ b. refl) c
-kept_step s v size st event _ (Step.gave i e off) stays sound c = keeps s v st i (record (slot_at st i) { used = false }) (slot_at st i).call (idle_range st i e) refl refl (c.marks i) (λ b. refl) c
+kept_step s v size st event _ (Step.took_old i r e least) stays sound c =
+    let q : Calm s v (taken_call size (length st.slots) st.rest) = taken_calm s v size (length st.slots) st.rest (in_slots_range s st sound c.active) in
+    keeps s v st i (taken_slot size (length st.slots) st.rest) None r (ap (λ (slot : Slot). slot.call) (sound.free i e)) q.0 (λ h. q.1) q.2 c
+kept_step s v size st event _ (Step.gave i e off ends) stays sound c = keeps s v st i no_slot None (idle_range st i e) (idle_call (slot_at st i) e) refl (λ h. tt) (λ b. refl) c
+kept_step s v size st event _ (Step.gathered i e off lone some) stays sound c =
+    keeps s v st i _ None (idle_range st i e) (idle_call (slot_at st i) e) refl (λ h. (in_slots_range s st sound c.active, λ h. absurd (omega arith))) (λ b. refl) c
 kept_step s v size st event _ (Step.entered i e off) stays sound c =
     let other : s ≢ i = λ same. (let on : is_active (head_at st i) ≡ true = rw (← same) c.active in cc) in
     record {

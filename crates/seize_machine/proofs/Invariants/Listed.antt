@@ -1,5 +1,5 @@
 -- What waits for slots, where no call is under way: a head lists a batch at most once, and the count of a batch is how many heads list it. And
--- a value that waits in a slot's batch, or is in a retired one, is neither out of a link nor in one.
+-- a value that waits in a slot's batch or in the rest, or is in a retired batch, is neither out of a link nor in one.
 --     IsSettled v st     so it is with the value, which was named
 use Rattle.std.proofs.Common.{◌≡◌, ◌≢◌, ℕ, zero, suc, ◌+◌, ◌≤◌, pos, Bool, true, false, ◌==◌, if◌then◌else◌, nat_lt, List, [], ◌∷◌, get_or, replicate, Option, Some, None, refl, sym, ◌∙◌, ap, subst, ◌⊎◌, inl, inr, arith}
 use Rattle.std.specs.Prelude.{option_to_list}
@@ -79,7 +79,7 @@ count_listed st r idle b =
 abbrev pub IsSettled : ℕ → State → Type 0
 IsSettled v st = (has v st.named ≡ true) × (has v st.loose ≡ false) × ((l : ℕ) → link_at st l ≢ Some v)
 
-settled : (st : State) → IsReached st → (v : ℕ) → 1 ≤ in_slots v st.slots + in_batches v st.batches → IsSettled v st
+settled : (st : State) → IsReached st → (v : ℕ) → 1 ≤ in_slots v st.slots + in_batches v st.batches + occ v st.rest → IsSettled v st
 settled st r v some = (has_if v st.named (let all = its.all in let once = its.once in omega (arith, all, once, some)), out (is_true (has v st.loose)), unheld)
   where
     its : Rattle.seize_machine.proofs.Invariants.Once.Once v st
@@ -104,3 +104,6 @@ waiting_settled st r s v c =
 pub batched_settled : (st : State) → IsReached st → (b v : ℕ) → Contains (batch_at st b).values v → IsSettled v st
 batched_settled st r b v c =
     settled st r v (let here = some_contained v (batch_at st b).values c in omega (arith, here, part-le-sum (λ (batch : Batch). occ v batch.values) st.batches b no_batch refl))
+
+pub rest_settled : (st : State) → IsReached st → (v : ℕ) → Contains st.rest v → IsSettled v st
+rest_settled st r v c = settled st r v (let here = some_contained v st.rest c in omega (arith, here))

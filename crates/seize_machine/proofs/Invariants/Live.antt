@@ -1,5 +1,5 @@
 -- A batch has values as long as it is held, and where each value stands in a reached state.
-use Rattle.std.proofs.Common.{◌≡◌, ◌≢◌, ℕ, ◌+◌, ◌<◌, ◌≤◌, ℤ, pos, ◌+ℤ◌, ◌-ℤ◌, Bool, true, false, ◌==◌, if◌then◌else◌, nat_lt, List, [], ◌∷◌, ◌++◌, length, get_or, set, replicate, Option, Some, None, refl, sym, ◌∙◌, ap, subst, ◌⊎◌, inl, inr, arith}
+use Rattle.std.proofs.Common.{◌≡◌, ◌≢◌, ℕ, ◌+◌, ◌<◌, ◌≤◌, ℤ, pos, ◌+ℤ◌, ◌-ℤ◌, Bool, true, false, ◌==◌, if◌then◌else◌, nat_lt, List, [], ◌∷◌, ◌++◌, length, get_or, set, replicate, Option, Some, None, refl, sym, ◌∙◌, ap, subst, ◌⊎◌, inl, inr, arith, ◌&&◌}
 use Rattle.std.specs.Prelude.{option_to_list}
 use Rattle.std.specs.List.{Contains}
 use Rattle.std.proofs.lemmas.Int.{ints}
@@ -7,13 +7,13 @@ use Rattle.std.proofs.lemmas.List.{get_or-set_other, get_or_past, get_or_push, g
 use Rattle.std.proofs.lemmas.List.Sums.{sum_by-set, sum_by_push, get_or-le-sum_by}
 use Rattle.seize_machine.specs.Machine.State.{no_slot, no_batch, State, Slot, Batch, Progress, Head, Inactive, Active, Place, Mark, Try, Add, Rest, slot_at, head_at, batch_at, link_at, is_active, waiting_at, has, opening}
 use Rattle.seize_machine.specs.Machine.Event.{Event}
-use Rattle.seize_machine.specs.Machine.Next.{look, looked, marked_place, is_zero, flushing_at}
+use Rattle.seize_machine.specs.Machine.Next.{look, looked, marked_place, is_zero, flushing_at, taken_slot, taken_call, is_empty}
 use Rattle.seize_machine.specs.Machine.History.{IsReached}
 use Rattle.seize_machine.specs.Machine.Laws.{IsHeld}
 use Rattle.seize_machine.specs.declared.machine.event.Answer.{Answer}
 use Rattle.seize_machine.specs.declared.machine.event.Job.{Job}
-use Rattle.seize_machine.specs.declared.machine.event.Job.TheVariants.{Retire, Flush, Leave, Refresh}
-use Rattle.seize_machine.proofs.Steps.Relation.{Step, Stands, beginning, some_is, is_true, eq_true, lt_true}
+use Rattle.seize_machine.specs.declared.machine.event.Job.TheVariants.{Retire, Flush, Leave, Refresh, Gather}
+use Rattle.seize_machine.proofs.Steps.Relation.{Step, Stands, beginning, some_is, is_true, eq_true, lt_true, taken}
 use Rattle.seize_machine.proofs.Counting.Sums.{one, occ, has_none, has_some, sum_nothing}
 use Rattle.seize_machine.proofs.Counting.Occurrences.{some_contained}
 use Rattle.seize_machine.proofs.Invariants.Counts.{CountedIn, of_calls, owns, owns-wins, wins, walks, listed, change, in_range, idle_range, idle_call, in_call_of, wins_alone, place_owns, place_walks, place_quiet, look_walks, look_owns, looked_same, emptied, head_range, get_or_push_other}
@@ -66,6 +66,7 @@ flushing_full n (v ∷ batch) = omega arith
 begun_full : (st : State) (s : ℕ) (job : Job) (place : Place) → beginning st s job ≡ Some place → PlaceFull (length (slot_at st s).batch) place
 begun_full st s (Retire v) place e = absurd (cc)
 begun_full st s Flush place e = subst (PlaceFull (length (slot_at st s).batch)) (some_is _ _ e) (flushing_full (length st.slots) (slot_at st s).batch)
+begun_full st s Gather place e = absurd (cc)
 begun_full st s Leave place e = subst (PlaceFull (length (slot_at st s).batch)) (some_is _ _ e) tt
 begun_full st s Refresh place e = subst (PlaceFull (length (slot_at st s).batch)) (some_is _ _ e) tt
 
@@ -73,10 +74,19 @@ put_full : (n v : ℕ) (batch : List ℕ) (place : Place) (P : Type 0) → ((pla
 put_full n v batch place P (inl e) = subst (PlaceFull (length (batch ++ v ∷ []))) (sym e.0) tt
 put_full n v batch place P (inr e) = subst (PlaceFull (length (batch ++ v ∷ []))) (sym e) (omega (arith, length_push batch v))
 
+taken_full : (size n : ℕ) (rest : List ℕ) → SlotFull (taken_slot size n rest)
+taken_full size n rest = taken (λ o. SlotFull (record { used = true; batch = rest; call = o })) size n rest (λ h. tt) (λ h. omega arith)
+
+gathered_full : (rest batch : List ℕ) → (is_empty batch && is_empty rest) ≡ false → 1 ≤ length (rest ++ batch)
+gathered_full [] [] some = absurd (cc)
+gathered_full [] (v ∷ batch) some = omega arith
+gathered_full (v ∷ rest) batch some = omega arith
+
 marking_step : (size : ℕ) (st : State) (event : Event) (d : State × Answer) → Step size st event d → Marking st → Marking d.0
-marking_step size st event _ (Step.took_new s e least) c = λ t. pushed SlotFull st.slots t (record { used = true; batch = []; call = None }) no_slot (λ same. tt) (c t)
-marking_step size st event _ (Step.took_old s r e least) c = marking_set st s (record (slot_at st s) { used = true }) c (c s)
-marking_step size st event _ (Step.gave s e off) c = marking_set st s (record (slot_at st s) { used = false }) c (c s)
+marking_step size st event _ (Step.took_new s e least) c = λ t. pushed SlotFull st.slots t (taken_slot size (length st.slots + 1) st.rest) no_slot (λ same. taken_full size (length st.slots + 1) st.rest) (c t)
+marking_step size st event _ (Step.took_old s r e least) c = marking_set st s (taken_slot size (length st.slots) st.rest) c (taken_full size (length st.slots) st.rest)
+marking_step size st event _ (Step.gave s e off ends) c = marking_set st s no_slot c tt
+marking_step size st event _ (Step.gathered s e off lone some) c = marking_set st s _ c (gathered_full st.rest (slot_at st s).batch some)
 marking_step size st event _ (Step.entered s e off) c = c
 marking_step size st event _ (Step.begun_retire s v e new) c = marking_set st s _ c tt
 marking_step size st event _ (Step.begun_other s job place e which exact) c = marking_set st s (record (slot_at st s) { call = Some (record { place = place; queue = [] }) }) c (begun_full st s job place exact.1)
@@ -212,11 +222,19 @@ sub_frees b st i a given walk queue e v z same =
     new : Slot
     new = record (slot_at st i) { call = Some (record { place = Rest given walk; queue = queue }) }
 
+taken_none : (b size n : ℕ) (rest : List ℕ) → (walks b (taken_call size n rest) ≡ 0) × (owns b (taken_call size n rest) ≡ 0)
+taken_none b size n rest = taken (λ o. (walks b o ≡ 0) × (owns b o ≡ 0)) size n rest (λ h. (refl, refl)) (λ h. (refl, refl))
+
 full_step : (b size : ℕ) (st : State) (event : Event) (d : State × Answer) → Step size st event d → Inv st → Marking st → FullIn b st → FullIn b d.0
 full_step b size st event _ (Step.took_new s e least) v m c =
-    λ h. c (omega (arith, sum_by_push (λ slot. walks b slot.call) st.slots (record { used = true; batch = []; call = None }), sum_by_push (λ slot. owns b slot.call) st.slots (record { used = true; batch = []; call = None }), sum_by_push (λ head. occ b (waiting_at head)) st.heads Inactive))
-full_step b size st event _ (Step.took_old s r e least) v m c = same_holders b st s (record (slot_at st s) { used = true }) (slot_at st s).call r refl (omega arith) (omega arith) c
-full_step b size st event _ (Step.gave s e off) v m c = same_holders b st s (record (slot_at st s) { used = false }) (slot_at st s).call (idle_range st s e) refl (omega arith) (omega arith) c
+    let new : Slot = taken_slot size (length st.slots + 1) st.rest in
+    let q : (walks b new.call ≡ 0) × (owns b new.call ≡ 0) = taken_none b size (length st.slots + 1) st.rest in
+    λ h. c (omega (arith, q.0, q.1, sum_by_push (λ slot. walks b slot.call) st.slots new, sum_by_push (λ slot. owns b slot.call) st.slots new, sum_by_push (λ head. occ b (waiting_at head)) st.heads Inactive))
+full_step b size st event _ (Step.took_old s r e least) v m c =
+    let q : _ × _ = taken_none b size (length st.slots) st.rest in
+    same_holders b st s (taken_slot size (length st.slots) st.rest) (slot_at st s).call r refl (omega (arith, q.0)) (omega (arith, q.1)) c
+full_step b size st event _ (Step.gave s e off ends) v m c = same_holders b st s no_slot (slot_at st s).call (idle_range st s e) refl (omega arith) (omega arith) c
+full_step b size st event _ (Step.gathered s e off lone some) v m c = same_holders b st s _ (slot_at st s).call (idle_range st s e) refl (omega arith) (omega arith) c
 full_step b size st event _ (Step.entered s e off) v m c = λ h. c (omega (arith, emptied b st s (Active []) refl))
 full_step b size st event _ (Step.begun_retire s w e new) v m c = same_holders b st s _ None (idle_range st s e) (idle_call (slot_at st s) e) (omega arith) (omega arith) c
 full_step b size st event _ (Step.begun_other s job place e which exact) v m c =

@@ -3,10 +3,10 @@ use Rattle.std.proofs.Common.{◌≡◌, ℕ, ◌+◌, ◌≤◌, Bool, true, fa
 use Rattle.std.proofs.lemmas.List.{length-set, length_push}
 use Rattle.seize_machine.specs.Machine.State.{no_slot, State, Slot, Progress, Head, Inactive, Active, Place, Append, Mark, Look, Rest, slot_at, head_at, is_active, opening}
 use Rattle.seize_machine.specs.Machine.Event.{Event}
-use Rattle.seize_machine.specs.Machine.Next.{look, marked_place, looked}
+use Rattle.seize_machine.specs.Machine.Next.{look, marked_place, looked, taken_slot, taken_call}
 use Rattle.seize_machine.specs.Machine.History.{IsReached}
 use Rattle.seize_machine.specs.declared.machine.event.Answer.{Answer}
-use Rattle.seize_machine.proofs.Steps.Relation.{Step, Stands, some_is}
+use Rattle.seize_machine.proofs.Steps.Relation.{Step, Stands, some_is, taken}
 use Rattle.seize_machine.proofs.Invariants.Kept.{at_set, pushed, starts}
 use Rattle.seize_machine.proofs.Invariants.Live.{opening_slot}
 use Rattle.seize_machine.proofs.Invariants.States.{reached_holds}
@@ -43,12 +43,17 @@ marked_note n note true marks batch = go (nat_lt (length marks) (length batch))
     go true = omega arith
     go false = omega arith
 
+taken_note : (size n : ℕ) (rest : List ℕ) → note_of (taken_call size n rest) ≤ n
+taken_note size n rest = taken (λ o. note_of o ≤ n) size n rest (λ h. omega arith) (λ h. omega arith)
+
 noted_step : (size : ℕ) (st : State) (event : Event) (d : State × Answer) → Step size st event d → Noted st → Noted d.0
 noted_step size st event _ (Step.took_new s e least) c = λ t.
-    rw (length_push st.slots (record { used = true; batch = []; call = None }))
-    (pushed (λ slot. note_of slot.call ≤ length st.slots + 1) st.slots t (record { used = true; batch = []; call = None }) no_slot (λ same. omega arith) (omega (arith, c t)))
-noted_step size st event _ (Step.took_old s r e least) c = noted_set st s (record (slot_at st s) { used = true }) c (c s)
-noted_step size st event _ (Step.gave s e off) c = noted_set st s (record (slot_at st s) { used = false }) c (c s)
+    let new : Slot = taken_slot size (length st.slots + 1) st.rest in
+    rw (length_push st.slots new)
+    (pushed (λ slot. note_of slot.call ≤ length st.slots + 1) st.slots t new no_slot (λ same. taken_note size (length st.slots + 1) st.rest) (omega (arith, c t)))
+noted_step size st event _ (Step.took_old s r e least) c = noted_set st s (taken_slot size (length st.slots) st.rest) c (taken_note size (length st.slots) st.rest)
+noted_step size st event _ (Step.gave s e off ends) c = noted_set st s no_slot c (omega arith)
+noted_step size st event _ (Step.gathered s e off lone some) c = noted_set st s _ c (omega arith)
 noted_step size st event _ (Step.entered s e off) c = c
 noted_step size st event _ (Step.begun_retire s w e new) c = noted_set st s (record (slot_at st s) { call = Some (record { place = Append w; queue = [] }) }) c (omega arith)
 noted_step size st event _ (Step.begun_other s job place e which exact) c =

@@ -4,13 +4,13 @@ use Rattle.std.specs.Prelude.{option_to_list}
 use Rattle.std.specs.List.{sum_by, filter}
 use Rattle.std.proofs.lemmas.List.{get_or_past, set_past}
 use Rattle.std.proofs.lemmas.List.Sums.{sum_by-set, sum_by_push}
-use Rattle.seize_machine.specs.Machine.State.{no_slot, no_batch, State, Slot, Batch, Progress, Head, Inactive, Active, Place, Append, Look, Add, Rest, slot_at, head_at, batch_at, link_at, is_active, waiting_at, is_idle, has}
+use Rattle.seize_machine.specs.Machine.State.{no_slot, no_batch, State, Slot, Batch, Progress, Head, Inactive, Active, Place, Append, Look, Add, Rest, slot_at, head_at, batch_at, link_at, is_active, waiting_at, is_idle, has, Mark}
 use Rattle.seize_machine.specs.Machine.Event.{Event}
-use Rattle.seize_machine.specs.Machine.Next.{look, marked_place, looked, begun, retiring, is_none_or_fresh}
+use Rattle.seize_machine.specs.Machine.Next.{look, marked_place, looked, begun, retiring, is_none_or_fresh, taken_slot, taken_call}
 use Rattle.seize_machine.specs.declared.machine.event.Answer.{Answer}
-use Rattle.seize_machine.proofs.Steps.Relation.{Step, Stands, is_true, eq_true, lt_true, and_true, not_true, some_is, swapped}
+use Rattle.seize_machine.proofs.Steps.Relation.{Step, Stands, is_true, eq_true, lt_true, and_true, not_true, some_is, swapped, taken}
 use Rattle.seize_machine.proofs.Counting.Sums.{one, occ, occ-append, occ-push, has_none, has_some, occ-filter_other, occ-filter_same, are_fresh-occ}
-use Rattle.seize_machine.proofs.Invariants.Counts.{in_range, idle_range, idle_call}
+use Rattle.seize_machine.proofs.Invariants.Counts.{in_range, idle_range, idle_call, Free}
 
 abbrev pub place_has : ℕ → Place → ℕ
 place_has v (Append w) = one (w == v)
@@ -35,7 +35,7 @@ in_links v links = sum_by (λ link. occ v (option_to_list link)) links
 
 -- where v stands
 abbrev pub places : ℕ → State → ℕ
-places v st = in_slots v st.slots + in_batches v st.batches + in_links v st.links + occ v st.loose + occ v st.gone
+places v st = in_slots v st.slots + in_batches v st.batches + in_links v st.links + occ v st.loose + occ v st.gone + occ v st.rest
 
 pub record Once (v : ℕ) (st : State) : Type 0 where
   pub once : places v st ≤ 1
@@ -114,7 +114,7 @@ begun_once v st s w e new c =
     named = if has w st.named then st.named else st.named ++ w ∷ []
 
     rest : ℕ
-    rest = one (w == v) + occ v (filter (λ x. not (x == w)) st.loose) + in_slots v st.slots + in_batches v st.batches + in_links v st.links + occ v st.gone
+    rest = one (w == v) + occ v (filter (λ x. not (x == w)) st.loose) + in_slots v st.slots + in_batches v st.batches + in_links v st.links + occ v st.gone + occ v st.rest
 
     go : ((w == v) ≡ true) ⊎ ((w == v) ≡ false) → (rest ≡ occ v named) × (occ v named ≤ 1)
     go (inl t) = from new (is_true (has w st.named))
@@ -168,62 +168,77 @@ swapped_once v st l new r fresh c =
         go (inl t) = let own : one (w == v) ≡ 1 = ap one t in (omega arith, λ h. subst (λ k. occ k st.named ≡ 0) (eq_true w v t) (has_none w st.named (not_true _ fresh)))
         go (inr t) = let own : one (w == v) ≡ 0 = ap one t in (omega arith, λ h. absurd (omega arith))
 
-pub once_step : (v size : ℕ) (st : State) (event : Event) (d : State × Answer) → Step size st event d → Once v st → Once v d.0
-once_step v size st event _ (Step.took_new s e least) c =
-    let x : _ ≡ _ = sum_by_push (slot_has v) st.slots (record { used = true; batch = []; call = None }) in
+taken_has : (v size n : ℕ) (rest : List ℕ) → call_has v (taken_call size n rest) ≡ 0
+taken_has v size n rest = taken (λ o. call_has v o ≡ 0) size n rest (λ h. refl) (λ h. refl)
+
+pub once_step : (v size : ℕ) (st : State) (event : Event) (d : State × Answer) → Free st → Step size st event d → Once v st → Once v d.0
+once_step v size st event _ free (Step.took_new s e least) c =
+    let new : Slot = taken_slot size (length st.slots + 1) st.rest in
+    let x : _ ≡ _ = sum_by_push (slot_has v) st.slots new in
+    let q : call_has v new.call ≡ 0 = taken_has v size (length st.slots + 1) st.rest in
     record { once = omega (arith, c.once); all = omega (arith, c.all) }
-once_step v size st event _ (Step.took_old s r e least) c =
-    let x : _ ≡ _ = same_place v st s (record (slot_at st s) { used = true }) r refl in
+once_step v size st event _ free (Step.took_old s r e least) c =
+    let new : Slot = taken_slot size (length st.slots) st.rest in
+    let x : _ ≡ _ = move v st s new r in
+    let q : call_has v new.call ≡ 0 = taken_has v size (length st.slots) st.rest in
+    let y : slot_has v (slot_at st s) ≡ 0 = ap (slot_has v) (free s e) in
     record { once = omega (arith, c.once); all = omega (arith, c.all) }
-once_step v size st event _ (Step.gave s e off) c =
-    let x : _ ≡ _ = same_place v st s (record (slot_at st s) { used = false }) (idle_range st s e) refl in
+once_step v size st event _ free (Step.gave s e off ends) c =
+    let x : _ ≡ _ = move v st s no_slot (idle_range st s e) in
+    let y : _ ≡ _ = had v st s None (idle_call (slot_at st s) e) in
+    let p : _ ≡ _ = occ-append v st.rest (slot_at st s).batch in
     record { once = omega (arith, c.once); all = omega (arith, c.all) }
-once_step v size st event _ (Step.entered s e off) c = record { once = c.once; all = c.all }
-once_step v size st event _ (Step.begun_retire s w e new) c = begun_once v st s w e new c
-once_step v size st event _ (Step.begun_other s job place e which exact) c =
+once_step v size st event _ free (Step.gathered s e off lone some) c =
+    let x : _ ≡ _ = move v st s (record { used = true; batch = st.rest ++ (slot_at st s).batch; call = Some (record { place = Mark 0 (length st.slots) []; queue = [] }) }) (idle_range st s e) in
+    let y : _ ≡ _ = had v st s None (idle_call (slot_at st s) e) in
+    let p : _ ≡ _ = occ-append v st.rest (slot_at st s).batch in
+    record { once = omega (arith, c.once); all = omega (arith, c.all) }
+once_step v size st event _ free (Step.entered s e off) c = record { once = c.once; all = c.all }
+once_step v size st event _ free (Step.begun_retire s w e new) c = begun_once v st s w e new c
+once_step v size st event _ free (Step.begun_other s job place e which exact) c =
     let k : place_has v place ≡ 0 = grind arith in
     let x : _ ≡ _ = move v st s (record (slot_at st s) { call = Some (record { place = place; queue = [] }) }) (idle_range st s e) in
     let y : _ ≡ _ = had v st s None (idle_call (slot_at st s) e) in
     record { once = omega (arith, c.once); all = omega (arith, c.all) }
-once_step v size st event _ (Step.put s w from before after place e which to after_is) c =
+once_step v size st event _ free (Step.put s w from before after place e which to after_is) c =
     let k : place_has v place ≡ 0 = grind arith in
     let f : occ v before + place_has v from ≡ occ v after + one (w == v) = grind arith in
     let p : _ ≡ _ = occ-push v (slot_at st s).batch w in
     let x : _ ≡ _ = move v st s (record { used = (slot_at st s).used; batch = (slot_at st s).batch ++ w ∷ []; call = Some (record { place = place; queue = after }) }) (in_range st s _ e) in
     let y : _ ≡ _ = had v st s _ e in
     record { once = omega (arith, c.once); all = omega (arith, c.all) }
-once_step v size st event _ (Step.marked s n next note marks queue e r k) c =
+once_step v size st event _ free (Step.marked s n next note marks queue e r k) c =
     let q : _ ≡ _ = mark_has v (is_active (head_at st n)) n note marks (slot_at st s).batch in
     let x : _ ≡ _ = move v st s (record (slot_at st s) { call = Some (record { place = marked_place (is_active (head_at st n)) n note marks (slot_at st s).batch; queue = queue }) }) (in_range st s _ e) in
     let y : _ ≡ _ = had v st s _ e in
     record { once = omega (arith, c.once); all = omega (arith, c.all) }
-once_step v size st event _ (Step.looked_at s a won m later queue e) c =
+once_step v size st event _ free (Step.looked_at s a won m later queue e) c =
     let q : _ ≡ _ = looked_has v (head_at st m) a won m later in
     let x : _ ≡ _ = move v st s (record (slot_at st s) { call = Some (record { place = looked (head_at st m) a won m later; queue = queue }) }) (in_range st s _ e) in
     let y : _ ≡ _ = had v st s _ e in
     record { once = omega (arith, c.once); all = omega (arith, c.all) }
-once_step v size st event _ (Step.detached s next note marks queue e le) c =
+once_step v size st event _ free (Step.detached s next note marks queue e le) c =
     let q : _ ≡ _ = look_has v (length st.batches) 0 marks in
     let x : _ ≡ _ = move v st s (record { used = (slot_at st s).used; batch = []; call = Some (record { place = look (length st.batches) 0 marks; queue = queue }) }) (in_range st s _ e) in
     let z : _ ≡ _ = sum_by_push (λ batch. occ v batch.values) st.batches (record { values = (slot_at st s).batch; count = pos 0 }) in
     let y : _ ≡ _ = had v st s _ e in
     record { once = omega (arith, c.once); all = omega (arith, c.all) }
-once_step v size st event _ (Step.inserted s m a won later saw queue waiting e head_is) c =
+once_step v size st event _ free (Step.inserted s m a won later saw queue waiting e head_is) c =
     let q : _ ≡ _ = look_has v a (won + 1) later in
     let x : _ ≡ _ = move v st s (record (slot_at st s) { call = Some (record { place = look a (won + 1) later; queue = queue }) }) (in_range st s _ e) in
     let y : _ ≡ _ = had v st s _ e in
     record { once = omega (arith, c.once); all = omega (arith, c.all) }
-once_step v size st event _ (Step.lost s m a won later saw queue e differs) c =
+once_step v size st event _ free (Step.lost s m a won later saw queue e differs) c =
     let x : _ ≡ _ = move v st s (record (slot_at st s) { call = Some (record { place = Look a won m later; queue = queue }) }) (in_range st s _ e) in
     let y : _ ≡ _ = had v st s _ e in
     record { once = omega (arith, c.once); all = omega (arith, c.all) }
-once_step v size st event _ (Step.added s a won queue d e h) c = subst (λ d. Once v d.0) (some_is _ _ h) (settles v st s a (Add a won) _ _ [] queue e refl c)
-once_step v size st event _ (Step.subtracted s a walk queue d e h) c = subst (λ d. Once v d.0) (some_is _ _ h) (settles v st s a (Rest [] (a ∷ walk)) _ _ walk queue e refl c)
-once_step v size st event _ (Step.swapped_out s stays queue e) c =
+once_step v size st event _ free (Step.added s a won queue d e h) c = subst (λ d. Once v d.0) (some_is _ _ h) (settles v st s a (Add a won) _ _ [] queue e refl c)
+once_step v size st event _ free (Step.subtracted s a walk queue d e h) c = subst (λ d. Once v d.0) (some_is _ _ h) (settles v st s a (Rest [] (a ∷ walk)) _ _ walk queue e refl c)
+once_step v size st event _ free (Step.swapped_out s stays queue e) c =
     let x : _ ≡ _ = move v st s (record (slot_at st s) { call = Some (record { place = Rest [] (waiting_at (head_at st s)); queue = queue }) }) (in_range st s _ e) in
     let y : _ ≡ _ = had v st s _ e in
     record { once = omega (arith, c.once); all = omega (arith, c.all) }
-once_step v size st event _ (Step.handed s w puts given walk queue e new) c =
+once_step v size st event _ free (Step.handed s w puts given walk queue e new) c =
     let n : (occ v puts ≤ 1) × (1 ≤ occ v puts → occ v st.named ≡ 0) = are_fresh-occ v st.named puts new in
     let q : _ ≡ _ = occ-append v queue puts in
     let g : _ ≡ _ = occ-push v st.gone w in
@@ -232,10 +247,10 @@ once_step v size st event _ (Step.handed s w puts given walk queue e new) c =
     let y : _ ≡ _ = had v st s _ e in
     let j : places v st + occ v puts ≤ 1 = joins _ _ c.once n.0 (λ h. omega (arith, c.all, n.1 h)) in
     record { once = omega arith; all = omega (arith, c.all) }
-once_step v size st event _ (Step.returned s e) c =
+once_step v size st event _ free (Step.returned s e) c =
     let x : _ ≡ _ = move v st s (record (slot_at st s) { call = None }) (in_range st s _ e) in
     let y : _ ≡ _ = had v st s _ e in
     record { once = omega (arith, c.once); all = omega (arith, c.all) }
-once_step v size st event _ (Step.read s l e) c = c
-once_step v size st event _ (Step.exchanged s l exchange new e fresh exact) c = swapped_once v st l new (lt_true _ _ (and_true _ _ e).1) fresh c
-once_step v size st event _ (Step.compared s l exchange e exact) c = c
+once_step v size st event _ free (Step.read s l e) c = c
+once_step v size st event _ free (Step.exchanged s l exchange new e fresh exact) c = swapped_once v st l new (lt_true _ _ (and_true _ _ e).1) fresh c
+once_step v size st event _ free (Step.compared s l exchange e exact) c = c

@@ -1,4 +1,5 @@
 -- The states that a legal list of events reaches: they stay so, and what the code counts with fits.
+use Rattle.seize_machine.proofs.Invariants.Rested.{RestFits, opening_rest_fits}
 use Rattle.std.proofs.Common.{◌≡◌, ℕ, zero, suc, ◌+◌, ◌<◌, ◌≤◌, max, pos, ◌+ℤ◌, Bool, true, false, not, ◌||◌, ◌==◌, if◌then◌else◌, nat_lt, nat_le, List, [], ◌∷◌, ◌++◌, length, get_or, replicate, Option, Some, None, Result, Ok, Err, IfOk, OnErr, refl, sym, ◌∙◌, ap, subst, ◌⊎◌, inl, inr, arith}
 use Rattle.std.proofs.lemmas.Int.{ints}
 use Rattle.std.proofs.lemmas.List.{get_or_past}
@@ -6,7 +7,7 @@ use Rattle.std.proofs.lemmas.List.Sums.{get_or-le-sum_by}
 use Rattle.seize_machine.specs.Machine.State.{no_slot, State, Slot, Progress, Place, Append, Mark, Look, Try, Add, Out, Rest, slot_at, batch_at, linked_values, are_distinct, opening}
 use Rattle.seize_machine.specs.Machine.Next.{Outcome, next}
 use Rattle.seize_machine.specs.Machine.History.{Timed, or_illegal, done_by, end_of, IsReached}
-use Rattle.seize_machine.specs.Machine.Laws.{is_put, PutsWithin}
+use Rattle.seize_machine.specs.Machine.Laws.{fills, FillsWithin}
 use Rattle.seize_machine.specs.Machine.Code.{HasOutcome, WinsFit, AddFits, SubFits, CountFits, CallCountsFit, CountsFit}
 use Rattle.seize_machine.specs.declared.machine.event.Answer.{Answer}
 use Rattle.seize_machine.proofs.Steps.Relation.{Stands, is_true, lt_true}
@@ -17,7 +18,7 @@ use Rattle.seize_machine.proofs.Invariants.Fits.{Fits, SlotFits, CallFits, Place
 use Rattle.seize_machine.proofs.Invariants.Always.{Inv, opening_inv}
 use Rattle.seize_machine.proofs.Lists.Histories.{run, run_is, from_first}
 use Rattle.seize_machine.proofs.Lists.LegalLists.{no_event, one_more}
-use Rattle.seize_machine.proofs.Lists.Ends.{opening_fits, end_inv, end_fits}
+use Rattle.seize_machine.proofs.Lists.Ends.{AllFits, opening_fits, end_inv, end_fits}
 
 -- a legal list ends where its moments end
 pub ends_at : (st : State) (r : IsReached st) → end_of (opening r.slots r.links) (run (opening r.slots r.links) r.events) ≡ st
@@ -31,23 +32,29 @@ abbrev largest : List Timed → ℕ
 largest [] = 0
 largest (t ∷ ts) = max t.size (largest ts)
 
-within : (k : ℕ) (ts : List Timed) (st : State) → largest ts ≤ k → PutsWithin k (run st ts)
+within : (k : ℕ) (ts : List Timed) (st : State) → largest ts ≤ k → FillsWithin k (run st ts)
 within k [] st h = refl
 within k (t ∷ ts) st h = go (next t.size st t.event) (λ st. within k ts st (omega arith))
   where
-    this : (put : Bool) → t.size ≤ k → (not put || nat_le t.size k) ≡ true
+    this : (fills : Bool) → t.size ≤ k → (not fills || nat_le t.size k) ≡ true
     this true le = grind arith
     this false le = refl
 
-    go : (o : Outcome) → ((st : State) → PutsWithin k (run st ts)) → PutsWithin k (from_first o st t ts)
+    go : (o : Outcome) → ((st : State) → FillsWithin k (run st ts)) → FillsWithin k (from_first o st t ts)
     go None ih = refl
-    go (Some d) ih = rw (this (is_put t.event) (omega arith)) (ih d.0)
+    go (Some d) ih = rw (this (fills st t.event) (omega arith)) (ih d.0)
 
-pub reached_fits : (st : State) → IsReached st → (k : ℕ) × Fits k st
-reached_fits st r =
+all_fits : (st : State) → IsReached st → (k : ℕ) × AllFits k st
+all_fits st r =
     let k : ℕ = largest r.events in
     let start : State = opening r.slots r.links in
-    (max 1 k, subst (Fits (max 1 k)) (ends_at st r) (end_fits k r.events start (within k r.events start (omega arith)) (opening_fits k r.slots r.links)))
+    (max 1 k, subst (AllFits (max 1 k)) (ends_at st r) (end_fits k r.events start (within k r.events start (omega arith)) (opening_fits k r.slots r.links, opening_rest_fits (max 1 k) r.slots r.links (omega arith))))
+
+pub reached_fits : (st : State) → IsReached st → (k : ℕ) × Fits k st
+reached_fits st r = let f = all_fits st r in (f.0, (f.1).0)
+
+pub reached_rest_fits : (st : State) → IsReached st → (k : ℕ) × RestFits k st
+reached_rest_fits st r = let f = all_fits st r in (f.0, (f.1).1)
 
 -- the insertions won of one batch are those of its one owner, at most one for each slot
 pub owner_wins : (k b : ℕ) (st : State) → Fits k st → CountedIn b st → of_calls (wins b) st.slots ≤ length st.slots

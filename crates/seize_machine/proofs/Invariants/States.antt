@@ -5,7 +5,7 @@ use Rattle.std.proofs.lemmas.List.{get_or-set_same, get_or-set_other, get_or_pas
 use Rattle.std.proofs.lemmas.List.Sums.{get_or-le-sum_by}
 use Rattle.seize_machine.specs.Machine.State.{no_slot, no_batch, State, Slot, Batch, Progress, Head, Inactive, Active, Place, Append, Mark, Look, Try, Add, Out, Rest, slot_at, head_at, batch_at, is_active, waiting_at, linked_values, are_distinct, opening}
 use Rattle.seize_machine.specs.Machine.Event.{Event, event_slot}
-use Rattle.seize_machine.specs.Machine.Next.{Outcome, next, of_call, walking_at, look, looked, marked_place, is_zero}
+use Rattle.seize_machine.specs.Machine.Next.{Outcome, next, of_call, walking_at, look, looked, marked_place, is_zero, taken_slot, taken_call}
 use Rattle.seize_machine.specs.Machine.Laws.{detached_by, walk_of, Lists, Walks}
 use Rattle.seize_machine.specs.Machine.History.{Timed, end_of, IsReached}
 use Rattle.seize_machine.specs.Machine.Laws.{added_batch}
@@ -13,7 +13,7 @@ use Rattle.seize_machine.specs.Machine.Frames.{changes_slot, is_number, changes_
 use Rattle.seize_machine.specs.Machine.Code.{AddFits}
 use Rattle.seize_machine.specs.declared.machine.event.Answer.{Answer}
 use Rattle.seize_machine.specs.declared.machine.event.Answer.TheVariants.{Count}
-use Rattle.seize_machine.proofs.Steps.Relation.{Step, Stands, step_of, some_is, is_true, eq_true}
+use Rattle.seize_machine.proofs.Steps.Relation.{Step, Stands, step_of, some_is, is_true, eq_true, taken}
 use Rattle.std.specs.List.{Contains}
 use Rattle.seize_machine.proofs.Counting.Sums.{one, occ, occ-push, sum_nothing}
 use Rattle.seize_machine.proofs.Counting.Occurrences.{some_contained, distinct_if, some_part}
@@ -223,12 +223,17 @@ put_tidy : (active : Bool) (values : ℕ → ℕ) (batch n : ℕ) (place : Place
 put_tidy active values batch n place P (inl e) = subst (PlaceTidy active values batch) (sym e.0) tt
 put_tidy active values batch n place P (inr e) = subst (PlaceTidy active values batch) (sym e) (λ v. (omega arith, λ h. absurd (omega arith)), omega arith)
 
+taken_tidy : (active : Bool) (values : ℕ → ℕ) (size n : ℕ) (rest : List ℕ) → CallTidy active values (length rest) (taken_call size n rest)
+taken_tidy active values size n rest = taken (CallTidy active values (length rest)) size n rest (λ h. tt) (λ h. (λ v. (omega arith, λ h. absurd (omega arith)), omega arith))
+
 tidy_own : (size : ℕ) (st : State) (event : Event) (d : State × Answer) → Step size st event d → SlotTidy st (event_slot event) → SlotTidy d.0 (event_slot event)
 tidy_own size st event _ (Step.took_new s e least) t =
-    let new : Slot = record { used = true; batch = []; call = None } in
-    subst (λ (slot : Slot). CallTidy (is_active (get_or (st.heads ++ Inactive ∷ []) s Inactive)) (values_at st) (length slot.batch) slot.call) (sym (get_or_push st.slots new no_slot s (sym e))) tt
-tidy_own size st event _ (Step.took_old s r e least) t = here st st.heads st.batches s (record (slot_at st s) { used = true }) r t
-tidy_own size st event _ (Step.gave s e off) t = here st st.heads st.batches s (record (slot_at st s) { used = false }) (idle_range st s e) t
+    let new : Slot = taken_slot size (length st.slots + 1) st.rest in
+    let on : Bool = is_active (get_or (st.heads ++ Inactive ∷ []) s Inactive) in
+    subst (λ (slot : Slot). CallTidy on (values_at st) (length slot.batch) slot.call) (sym (get_or_push st.slots new no_slot s (sym e))) (taken_tidy on (values_at st) size (length st.slots + 1) st.rest)
+tidy_own size st event _ (Step.took_old s r e least) t = here st st.heads st.batches s (taken_slot size (length st.slots) st.rest) r (taken_tidy _ (values_at st) size (length st.slots) st.rest)
+tidy_own size st event _ (Step.gave s e off ends) t = here st st.heads st.batches s no_slot (idle_range st s e) tt
+tidy_own size st event _ (Step.gathered s e off lone some) t = here st st.heads st.batches s _ (idle_range st s e) (λ v. (omega arith, λ h. absurd (omega arith)), omega arith)
 tidy_own size st event _ (Step.entered s e off) t =
     subst (λ (o : Option Progress). CallTidy (is_active (get_or (set st.heads s (Active [])) s Inactive)) (values_at st) (length (slot_at st s).batch) o) (sym (idle_call (slot_at st s) e)) tt
 tidy_own size st event _ (Step.begun_retire s v e new) t = here st st.heads st.batches s (record (slot_at st s) { call = Some (record { place = Append v; queue = [] }) }) (idle_range st s e) tt
@@ -339,7 +344,7 @@ High st = (b : ℕ) → (batch_at st b).count ≤ℤ pos (length st.slots)
 
 high_step : (st : State) (t : Timed) (d : State × Answer) → IsReached st → Step t.size st t.event d → High st → High d.0
 unfolding High
-high_step st t _ r (Step.took_new s e least) h b = omega (arith, ints, h b, length_push st.slots (record { used = true; batch = []; call = None }))
+high_step st t _ r (Step.took_new s e least) h b = omega (arith, ints, h b, length_push st.slots (taken_slot t.size (length st.slots + 1) st.rest))
 high_step st t _ r (Step.detached s next note marks queue e le) h b =
     pushed (λ batch. batch.count ≤ℤ pos (length (set st.slots s (record { used = (slot_at st s).used; batch = []; call = Some (record { place = look (length st.batches) 0 marks; queue = queue }) })))) st.batches b _ no_batch
     (λ i. omega (arith, ints)) (omega (arith, ints, h b, length-set {A = Slot}))

@@ -5,11 +5,11 @@ use Rattle.std.proofs.lemmas.List.{get_or-set_other, get_or_past}
 use Rattle.std.proofs.lemmas.List.Sums.{sum_by_push, get_or-le-sum_by}
 use Rattle.seize_machine.specs.Machine.State.{no_slot, no_batch, State, Slot, Progress, Head, Inactive, Active, Place, Mark, Look, Try, Out, Rest, slot_at, head_at, batch_at, is_active, waiting_at, linked_values, are_distinct, opening}
 use Rattle.seize_machine.specs.Machine.Event.{Event}
-use Rattle.seize_machine.specs.Machine.Next.{look, looked, marked_place}
+use Rattle.seize_machine.specs.Machine.Next.{look, looked, marked_place, taken_slot, taken_call}
 use Rattle.seize_machine.specs.Machine.History.{IsReached}
 use Rattle.seize_machine.specs.Machine.Laws.{Lists, Walks}
 use Rattle.seize_machine.specs.declared.machine.event.Answer.{Answer}
-use Rattle.seize_machine.proofs.Steps.Relation.{Step, Stands, some_is, is_true, eq_true, lt_true}
+use Rattle.seize_machine.proofs.Steps.Relation.{Step, Stands, some_is, is_true, eq_true, lt_true, taken}
 use Rattle.seize_machine.proofs.Counting.Sums.{one, occ, sum_alone, distinct_once}
 use Rattle.seize_machine.proofs.Counting.Occurrences.{some_contained, distinct_if}
 use Rattle.seize_machine.proofs.Invariants.Counts.{CountedIn, of_calls, owns, place_owns, walks, place_walks, listed, change, in_range, idle_range, idle_call, place_quiet, look_walks, looked_same}
@@ -160,13 +160,20 @@ swapped_unheld b m st s stays queue e c = λ some.
     emptied true = refl
     emptied false = refl
 
+taken_none : (b m size n : ℕ) (rest : List ℕ) → (inserts_left b m (taken_call size n rest) ≡ 0) × (walks b (taken_call size n rest) ≡ 0)
+taken_none b m size n rest = taken (λ o. (inserts_left b m o ≡ 0) × (walks b o ≡ 0)) size n rest (λ h. (refl, refl)) (λ h. (refl, refl))
+
 unheld_step : (b m size : ℕ) (st : State) (event : Event) (d : State × Answer) → IsReached st → Step size st event d → UnheldIn b m st → UnheldIn b m d.0
 unheld_step b m size st event _ r (Step.took_new s e least) c = λ some.
-    let new : Slot = record { used = true; batch = []; call = None } in
-    let old : (occ b (waiting_at (head_at st m)) ≡ 0) × (walks b (slot_at st m).call ≡ 0) = c (omega (arith, sum_by_push (λ slot. inserts_left b m slot.call) st.slots new)) in
-    (pushed (λ head. occ b (waiting_at head) ≡ 0) st.heads m Inactive Inactive (λ same. refl) old.0, pushed (λ slot. walks b slot.call ≡ 0) st.slots m new no_slot (λ same. refl) old.1)
-unheld_step b m size st event _ r (Step.took_old s within e least) c = same_unheld b m st s (record (slot_at st s) { used = true }) (slot_at st s).call within refl (omega arith) (omega arith) c
-unheld_step b m size st event _ r (Step.gave s e off) c = same_unheld b m st s (record (slot_at st s) { used = false }) (slot_at st s).call (idle_range st s e) refl (omega arith) (omega arith) c
+    let new : Slot = taken_slot size (length st.slots + 1) st.rest in
+    let q : (inserts_left b m new.call ≡ 0) × (walks b new.call ≡ 0) = taken_none b m size (length st.slots + 1) st.rest in
+    let old : (occ b (waiting_at (head_at st m)) ≡ 0) × (walks b (slot_at st m).call ≡ 0) = c (omega (arith, sum_by_push (λ slot. inserts_left b m slot.call) st.slots new, q.0)) in
+    (pushed (λ head. occ b (waiting_at head) ≡ 0) st.heads m Inactive Inactive (λ same. refl) old.0, pushed (λ slot. walks b slot.call ≡ 0) st.slots m new no_slot (λ same. q.1) old.1)
+unheld_step b m size st event _ r (Step.took_old s within e least) c =
+    let q : _ × _ = taken_none b m size (length st.slots) st.rest in
+    same_unheld b m st s (taken_slot size (length st.slots) st.rest) (slot_at st s).call within refl (omega (arith, q.0)) (omega (arith, q.1)) c
+unheld_step b m size st event _ r (Step.gave s e off ends) c = same_unheld b m st s no_slot (slot_at st s).call (idle_range st s e) refl (omega arith) (omega arith) c
+unheld_step b m size st event _ r (Step.gathered s e off lone some) c = same_unheld b m st s _ (slot_at st s).call (idle_range st s e) refl (omega arith) (omega arith) c
 unheld_step b m size st event _ r (Step.entered s e off) c = λ some. (at_set (λ head. occ b (waiting_at head) ≡ 0) st.heads s m (Active []) Inactive (λ same within. refl) (c some).0, (c some).1)
 unheld_step b m size st event _ r (Step.begun_retire s v e new) c = same_unheld b m st s _ None (idle_range st s e) (idle_call (slot_at st s) e) (omega arith) (omega arith) c
 unheld_step b m size st event _ r (Step.begun_other s job place e which exact) c =

@@ -70,12 +70,12 @@ stays_retired v zero (t ∷ ts) st i g r =
     (λ d e h.
     let step : Step t.size st t.event d = step_of t.size st t.event d e in
     let j : Inv d.0 = inv_step t.size st t.event d step i in
-    omega (arith, parts_step v t.size st t.event d step, value_is v _ h, parts-le-places v d.0, (j.once v).once))
+    omega (arith, parts_step v t.size st t.event d i.sound.free step, value_is v _ h, parts-le-places v d.0, (j.once v).once))
     r.2
 stays_retired v (suc q) (t ∷ ts) st i g r =
     let w : (d : State × Answer) × (next t.size st t.event ≡ Some d) × (slice_get (run d.0 ts) q ≡ Some r.0) = later _ st t ts q r.0 r.1 in
     let step : Step t.size st t.event w.0 = step_of t.size st t.event w.0 w.1 in
-    stays_retired v q ts (w.0).0 (inv_step t.size st t.event w.0 step i) (omega (arith, parts_step v t.size st t.event w.0 step)) (r.0, w.2, r.2)
+    stays_retired v q ts (w.0).0 (inv_step t.size st t.event w.0 step i) (omega (arith, parts_step v t.size st t.event w.0 i.sound.free step)) (r.0, w.2, r.2)
 
 -- what the law of after says of a value that is reclaimed
 abbrev pub Story : State → List Timed → ℕ → ℕ → Type 0
@@ -103,7 +103,7 @@ story_first v c t ts st i n r d e app =
     only (suc r) x =
         let w : (d : State × Answer) × (next t.size st t.event ≡ Some d) × (slice_get (run d.0 ts) r ≡ Some x.0) = later _ st t ts r x.0 x.1 in
         let same : d ≡ w.0 = some_is _ _ (sym e ∙ w.1) in
-        absurd (stays_retired v r ts d.0 (inv_step t.size st t.event d step i) (omega (arith, parts_step v t.size st t.event d step, value_is v _ app)) (x.0, rw same w.2, x.2))
+        absurd (stays_retired v r ts d.0 (inv_step t.size st t.event d step i) (omega (arith, parts_step v t.size st t.event d i.sound.free step, value_is v _ app)) (x.0, rw same w.2, x.2))
 
     parted : (s : ℕ) → IsActiveAt (run st (t ∷ ts)) s zero → HasParted (run st (t ∷ ts)) s zero (suc c)
     parted s a =
@@ -152,7 +152,7 @@ after v (suc c) (t ∷ ts) st i n r = go (later _ st t ts c r.0 r.1) (λ st. aft
     go w ih (inl app) = story_first v c t ts st i n r w.0 w.1 app
     go w ih (inr none) =
         let step : Step t.size st t.event w.0 = step_of t.size st t.event w.0 w.1 in
-        story_later v c t ts st w.0 w.1 none (ih (w.0).0 (inv_step t.size st t.event w.0 step i) (omega (arith, parts_step v t.size st t.event w.0 step)) (r.0, w.2, r.2))
+        story_later v c t ts st w.0 w.1 none (ih (w.0).0 (inv_step t.size st t.event w.0 step i) (omega (arith, parts_step v t.size st t.event w.0 i.sound.free step)) (r.0, w.2, r.2))
 
 pub none_retired : (v slots : ℕ) (links : List (Option ℕ)) → parts v (opening slots links) ≡ 0
 none_retired v slots links = omega (arith, sum_replicate (slot_keeps v) slots no_slot refl)

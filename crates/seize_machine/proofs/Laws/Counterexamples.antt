@@ -4,10 +4,10 @@ use Rattle.seize_machine.specs.Machine.State.{State, opening}
 use Rattle.seize_machine.specs.Machine.Event.{Event}
 use Rattle.seize_machine.specs.Machine.Next.{Transition}
 use Rattle.seize_machine.specs.Machine.History.{Moment, at_size, history}
-use Rattle.seize_machine.specs.Machine.Laws.{AtMostOnce, After, Quiet, Protection, Whereabouts, Gone, Holders, NoLaterHolders, UnderGuard, Tries, Breaks}
+use Rattle.seize_machine.specs.Machine.Laws.{AtMostOnce, After, Quiet, Unused, Protection, Whereabouts, Gone, Holders, NoLaterHolders, UnderGuard, Tries, Breaks}
 use Rattle.seize_machine.specs.Machine.Rows.{added_beside_active}
-use Rattle.seize_machine.specs.Machine.Counterexamples.{nothing_given_up, retired_alone, given_up_unless_active, given_up_below_zero, counted_down_early, given_up_and_kept, counted_alone, handed_twice, given_up_and_forgotten, skipped_and_counted, skipped_and_added, one_value_more, retired_at_a_smaller_size, rest_passed_over, retired_beside_two, number_passed_over, read_last_alone, read_other_alone, given_up_when_full, found_and_retired, fixed_note, made_before_put, retired_again, retired_twice, given_up_unretired, begun_alone, handed_alone, lost_at_any_time, lost_alone, left_in_the_link, found_after_its_retirement, taken_out, out_and_forgotten, another_stored, joined_at_entry, entered_after_add, left_after_add, kept_by_a_refresh, refreshed_after_add, recorded_in_front, handed_in_order}
-use Rattle.seize_machine.proofs.Laws.Refuting.{not_once, not_after, not_before, not_just_once, not_protection, not_retired_since, not_quiet, not_distinct, not_forgotten, not_unretired, not_lost, not_unnamed, not_gone, not_holders, not_listed, not_unparted, not_held, not_kept, not_tries}
+use Rattle.seize_machine.specs.Machine.Counterexamples.{nothing_given_up, retired_alone, given_up_unless_active, given_up_below_zero, counted_down_early, given_up_and_kept, counted_alone, handed_twice, given_up_and_forgotten, skipped_and_counted, skipped_and_added, one_value_more, retired_at_a_smaller_size, rest_passed_over, retired_beside_two, number_passed_over, read_last_alone, read_other_alone, given_up_when_full, found_and_retired, fixed_note, made_before_put, retired_again, retired_twice, given_up_unretired, begun_alone, handed_alone, lost_at_any_time, lost_alone, left_in_the_link, found_after_its_retirement, taken_out, out_and_forgotten, another_stored, joined_at_entry, entered_after_add, left_after_add, kept_by_a_refresh, refreshed_after_add, ended_at_any_time, left_by_the_last, ended_by_its_batch, left_for_the_last, taken_without_the_rest, left_and_taken, taken_with_no_note, taken_at_a_smaller_size, recorded_in_front, handed_in_order}
+use Rattle.seize_machine.proofs.Laws.Refuting.{not_once, not_after, not_before, not_just_once, not_protection, not_retired_since, not_quiet, not_unused, not_distinct, not_forgotten, not_unretired, not_lost, not_unnamed, not_gone, not_holders, not_listed, not_unparted, not_held, not_kept, not_tries}
 
 abbrev start : List (Option ℕ) → State
 start links = opening 0 links
@@ -16,7 +16,7 @@ abbrev moments : Transition → List (Option ℕ) → ℕ → List Event → Lis
 moments transition links size events = history transition (opening 0 links) (at_size size events)
 
 pub nothing_given_up_breaks_quiet : Breaks nothing_given_up [] (at_size 1 retired_alone) Quiet
-nothing_given_up_breaks_quiet = (refl, refl, not_quiet (start []) (moments nothing_given_up [] 1 retired_alone) 7 2 refl (_, refl, refl) refl 1 refl refl)
+nothing_given_up_breaks_quiet = (refl, refl, not_quiet (start []) (moments nothing_given_up [] 1 retired_alone) 7 2 refl (_, refl, refl) refl 1 refl refl refl)
 
 pub nothing_given_up_breaks_holders : Breaks nothing_given_up [] (at_size 1 retired_alone) Holders
 nothing_given_up_breaks_holders = (refl, refl, not_holders (start []) (moments nothing_given_up [] 1 retired_alone) 0 7 (0, omega arith, refl) refl)
@@ -37,10 +37,10 @@ pub given_up_and_forgotten_breaks_whereabouts : Breaks given_up_and_forgotten []
 given_up_and_forgotten_breaks_whereabouts = (refl, refl, not_forgotten (start []) (moments given_up_and_forgotten [] 1 retired_alone) 7 2 (_, refl, refl) refl)
 
 pub skipped_and_counted_breaks_quiet : Breaks skipped_and_counted [] (at_size 1 skipped_and_added) Quiet
-skipped_and_counted_breaks_quiet = (refl, refl, not_quiet (start []) (moments skipped_and_counted [] 1 skipped_and_added) 7 4 refl (_, refl, refl) refl 1 refl refl)
+skipped_and_counted_breaks_quiet = (refl, refl, not_quiet (start []) (moments skipped_and_counted [] 1 skipped_and_added) 7 4 refl (_, refl, refl) refl 1 refl refl refl)
 
 pub one_value_more_breaks_quiet : Breaks one_value_more [] retired_at_a_smaller_size Quiet
-one_value_more_breaks_quiet = (refl, refl, not_quiet (start []) (history one_value_more (start []) retired_at_a_smaller_size) 7 3 refl (_, refl, refl) refl 1 refl refl)
+one_value_more_breaks_quiet = (refl, refl, not_quiet (start []) (history one_value_more (start []) retired_at_a_smaller_size) 7 3 refl (_, refl, refl) refl 1 refl refl refl)
 
 pub rest_passed_over_breaks_after : Breaks rest_passed_over [] (at_size 1 retired_beside_two) After
 rest_passed_over_breaks_after = (refl, refl, not_after (start []) (moments rest_passed_over [] 1 retired_beside_two) 7 6 15 2 (_, refl, refl) (_, refl, refl) (_, refl, refl) refl)
@@ -97,3 +97,15 @@ kept_by_a_refresh_breaks_no_later_holders =
 
 pub recorded_in_front_breaks_gone : Breaks recorded_in_front [] (at_size 2 handed_in_order) Gone
 recorded_in_front_breaks_gone = (refl, refl, not_gone (start []) (moments recorded_in_front [] 2 handed_in_order) refl)
+
+pub ended_at_any_time_breaks_unused : Breaks ended_at_any_time [] (at_size 2 left_by_the_last) Unused
+ended_at_any_time_breaks_unused = (refl, refl, not_unused (start []) (moments ended_at_any_time [] 2 left_by_the_last) 7 2 refl (_, refl, refl) refl)
+
+pub ended_by_its_batch_breaks_unused : Breaks ended_by_its_batch [] (at_size 2 left_for_the_last) Unused
+ended_by_its_batch_breaks_unused = (refl, refl, not_unused (start []) (moments ended_by_its_batch [] 2 left_for_the_last) 7 3 refl (_, refl, refl) refl)
+
+pub taken_without_the_rest_breaks_whereabouts : Breaks taken_without_the_rest [] (at_size 2 left_and_taken) Whereabouts
+taken_without_the_rest_breaks_whereabouts = (refl, refl, not_forgotten (start []) (moments taken_without_the_rest [] 2 left_and_taken) 7 3 (_, refl, refl) refl)
+
+pub taken_with_no_note_breaks_after : Breaks taken_with_no_note [] taken_at_a_smaller_size After
+taken_with_no_note_breaks_after = (refl, refl, not_after (start []) (history taken_with_no_note (start []) taken_at_a_smaller_size) 7 4 10 1 (_, refl, refl) (_, refl, refl) (_, refl, refl) refl)

@@ -5,11 +5,11 @@ use Rattle.std.proofs.lemmas.List.{get_or_past, get_or-set_same, get_or-set_othe
 use Rattle.std.proofs.lemmas.List.Sums.{sum_by_push}
 use Rattle.seize_machine.specs.Machine.State.{no_slot, State, Slot, Batch, Progress, Head, Inactive, Active, Place, Append, Mark, Look, Try, Add, Out, Rest, slot_at, head_at, batch_at, waiting_at, is_active, linked_values, are_distinct, opening}
 use Rattle.seize_machine.specs.Machine.Event.{Event}
-use Rattle.seize_machine.specs.Machine.Next.{Outcome, next, look, is_zero}
+use Rattle.seize_machine.specs.Machine.Next.{Outcome, next, look, is_zero, taken_slot, taken_call}
 use Rattle.seize_machine.specs.Machine.History.{Timed, Moment, end_of, is_swap_out, HasParted}
 use Rattle.seize_machine.specs.Machine.Laws.{walk_of, added_batch, added_by, Lists, Walks, NoLaterHolders}
 use Rattle.seize_machine.specs.declared.machine.event.Answer.{Answer}
-use Rattle.seize_machine.proofs.Steps.Relation.{Step, step_of, some_is, is_true, eq_true}
+use Rattle.seize_machine.proofs.Steps.Relation.{Step, step_of, some_is, is_true, eq_true, taken}
 use Rattle.seize_machine.proofs.Counting.Sums.{one, occ}
 use Rattle.seize_machine.proofs.Counting.Occurrences.{contains_some, some_contained}
 use Rattle.seize_machine.proofs.Invariants.Counts.{CountedIn, of_calls, owns, place_owns, walks, place_walks, change, in_range, idle_range, idle_call, in_call_of, held_range, place_quiet, look_walks, look_owns, looked_same}
@@ -43,10 +43,10 @@ slot_settled b base st i new o r e walk own c = (
 )
 
 -- the same, where no head and no number of batches changes
-same_heads : (b : ℕ) (base st : State) (i : ℕ) (new : Slot) (o : Option Progress) (loose gone named : List ℕ) → i < length st.slots → (slot_at st i).call ≡ o → walks b new.call ≤ walks b o → owns b new.call ≤ owns b o
+same_heads : (b : ℕ) (base st : State) (i : ℕ) (new : Slot) (o : Option Progress) (rest loose gone named : List ℕ) → i < length st.slots → (slot_at st i).call ≡ o → walks b new.call ≤ walks b o → owns b new.call ≤ owns b o
     → Settled b base st → (batches : List Batch) → length st.batches ≤ length batches
-    → Settled b base (record st { slots = set st.slots i new; batches = batches; loose = loose; gone = gone; named = named })
-same_heads b base st i new o loose gone named r e walk own c batches more =
+    → Settled b base (record st { slots = set st.slots i new; batches = batches; rest = rest; loose = loose; gone = gone; named = named })
+same_heads b base st i new o rest loose gone named r e walk own c batches more =
     let k = slot_settled b base st i new o r e walk own c in
     record {
       lists_less = c.lists_less;
@@ -109,39 +109,46 @@ calm_put b n place P (inr e) = calm_start b n place (inr (inl e))
 other_batch : (a b n : ℕ) → one (a == b) ≤ n → n ≡ 0 → one (a == b) ≡ 0
 other_batch a b n le e = omega arith
 
+taken_none : (b size n : ℕ) (rest : List ℕ) → (walks b (taken_call size n rest) ≡ 0) × (owns b (taken_call size n rest) ≡ 0)
+taken_none b size n rest = taken (λ o. (walks b o ≡ 0) × (owns b o ≡ 0)) size n rest (λ h. (refl, refl)) (λ h. (refl, refl))
+
 settled_step : (b size : ℕ) (base st : State) (event : Event) (d : State × Answer) → Step size st event d → Settled b base st → Settled b base d.0
 settled_step b size base st event _ (Step.took_new s e least) c =
-    let new : Slot = record { used = true; batch = []; call = None } in
+    let new : Slot = taken_slot size (length st.slots + 1) st.rest in
+    let q : (walks b new.call ≡ 0) × (owns b new.call ≡ 0) = taken_none b size (length st.slots + 1) st.rest in
     let same : (t : ℕ) → get_or (st.heads ++ Inactive ∷ []) t Inactive ≡ head_at st t =
     λ t. pushed (λ head. head ≡ head_at st t) st.heads t Inactive Inactive (λ i. sym (get_or_past st.heads t Inactive (omega (arith, i)))) refl in
     let walk : (t : ℕ) → walks b (get_or (st.slots ++ new ∷ []) t no_slot).call ≤ walked b st t =
-    λ t. pushed (λ slot. walks b slot.call ≤ walked b st t) st.slots t new no_slot (λ i. omega arith) (omega arith) in
+    λ t. pushed (λ slot. walks b slot.call ≤ walked b st t) st.slots t new no_slot (λ i. omega (arith, q.0)) (omega arith) in
     record {
       lists_less = λ t. rw (same t) (c.lists_less t);
       held_less = λ t. rw (same t) (omega (arith, walk t, c.held_less t));
-      unowned = omega (arith, sum_by_push (λ slot. owns b slot.call) st.slots new, c.unowned);
+      unowned = omega (arith, sum_by_push (λ slot. owns b slot.call) st.slots new, c.unowned, q.1);
       there = c.there;
     }
-settled_step b size base st event _ (Step.took_old s r e least) c = same_heads b base st s (record (slot_at st s) { used = true }) (slot_at st s).call st.loose st.gone st.named r refl (omega arith) (omega arith) c st.batches (omega arith)
-settled_step b size base st event _ (Step.gave s e off) c = same_heads b base st s (record (slot_at st s) { used = false }) (slot_at st s).call st.loose st.gone st.named (idle_range st s e) refl (omega arith) (omega arith) c st.batches (omega arith)
+settled_step b size base st event _ (Step.took_old s r e least) c =
+    let q : _ × _ = taken_none b size (length st.slots) st.rest in
+    same_heads b base st s (taken_slot size (length st.slots) st.rest) (slot_at st s).call [] st.loose st.gone st.named r refl (omega (arith, q.0)) (omega (arith, q.1)) c st.batches (omega arith)
+settled_step b size base st event _ (Step.gave s e off ends) c = same_heads b base st s no_slot (slot_at st s).call _ st.loose st.gone st.named (idle_range st s e) refl (omega arith) (omega arith) c st.batches (omega arith)
+settled_step b size base st event _ (Step.gathered s e off lone some) c = same_heads b base st s _ (slot_at st s).call [] st.loose st.gone st.named (idle_range st s e) refl (omega arith) (omega arith) c st.batches (omega arith)
 settled_step b size base st event _ (Step.entered s e off) c = with_head b base st s (Active []) st.slots (omega arith) (λ t other. omega arith) (omega arith) c.unowned c
-settled_step b size base st event _ (Step.begun_retire s v e new) c = same_heads b base st s _ None _ _ _ (idle_range st s e) (idle_call (slot_at st s) e) (omega arith) (omega arith) c st.batches (omega arith)
+settled_step b size base st event _ (Step.begun_retire s v e new) c = same_heads b base st s _ None _ _ _ _ (idle_range st s e) (idle_call (slot_at st s) e) (omega arith) (omega arith) c st.batches (omega arith)
 settled_step b size base st event _ (Step.begun_other s job place e which exact) c =
     let q : Calm b place = calm_start b (length st.slots) place which in
-    same_heads b base st s (record (slot_at st s) { call = Some (record { place = place; queue = [] }) }) None st.loose st.gone st.named (idle_range st s e) (idle_call (slot_at st s) e) q.0 q.1 c st.batches (omega arith)
+    same_heads b base st s (record (slot_at st s) { call = Some (record { place = place; queue = [] }) }) None st.rest st.loose st.gone st.named (idle_range st s e) (idle_call (slot_at st s) e) q.0 q.1 c st.batches (omega arith)
 settled_step b size base st event _ (Step.put s v from before after place e which to after_is) c =
     let q : Calm b place = calm_put b (length st.slots) place _ to in
-    same_heads b base st s (record { used = (slot_at st s).used; batch = (slot_at st s).batch ++ v ∷ []; call = Some (record { place = place; queue = after }) }) _ st.loose st.gone st.named (in_range st s _ e) e (omega (arith, q.0)) (omega (arith, q.1)) c st.batches (omega arith)
+    same_heads b base st s (record { used = (slot_at st s).used; batch = (slot_at st s).batch ++ v ∷ []; call = Some (record { place = place; queue = after }) }) _ st.rest st.loose st.gone st.named (in_range st s _ e) e (omega (arith, q.0)) (omega (arith, q.1)) c st.batches (omega arith)
 settled_step b size base st event _ (Step.marked s n next note marks queue e r k) c =
     let q = place_quiet b (is_active (head_at st n)) n note marks (slot_at st s).batch in
-    same_heads b base st s _ _ st.loose st.gone st.named (in_range st s _ e) e (omega (arith, q.0)) (omega (arith, q.1)) c st.batches (omega arith)
+    same_heads b base st s _ _ st.rest st.loose st.gone st.named (in_range st s _ e) e (omega (arith, q.0)) (omega (arith, q.1)) c st.batches (omega arith)
 settled_step b size base st event _ (Step.looked_at s a won m later queue e) c =
     let q = looked_same b (head_at st m) a won m later in
-    same_heads b base st s _ _ st.loose st.gone st.named (in_range st s _ e) e (omega (arith, q.0)) (omega (arith, q.1)) c st.batches (omega arith)
+    same_heads b base st s _ _ st.rest st.loose st.gone st.named (in_range st s _ e) e (omega (arith, q.0)) (omega (arith, q.1)) c st.batches (omega arith)
 settled_step b size base st event _ (Step.detached s next note marks queue e le) c =
     let own : place_owns b (look (length st.batches) 0 marks) ≡ one (length st.batches == b) = look_owns b (length st.batches) 0 marks in
     let other : one (length st.batches == b) ≡ 0 = (let t : (length st.batches == b) ≡ false = past c.there in ap one t) in
-    same_heads b base st s (record { used = (slot_at st s).used; batch = []; call = Some (record { place = look (length st.batches) 0 marks; queue = queue }) }) _ st.loose st.gone st.named (in_range st s _ e) e
+    same_heads b base st s (record { used = (slot_at st s).used; batch = []; call = Some (record { place = look (length st.batches) 0 marks; queue = queue }) }) _ st.rest st.loose st.gone st.named (in_range st s _ e) e
     (omega (arith, look_walks b (length st.batches) 0 marks)) (omega arith) c (st.batches ++ record { values = (slot_at st s).batch; count = pos 0 } ∷ []) (omega (arith, length_push st.batches (record { values = (slot_at st s).batch; count = pos 0 })))
   where
     past : b < length st.batches → (length st.batches == b) ≡ false
@@ -152,9 +159,9 @@ settled_step b size base st event _ (Step.inserted s m a won later saw queue wai
     let k = slot_settled b base st s new _ (in_range st s _ e) e (omega (arith, look_walks b a (won + 1) later)) (omega (arith, look_owns b a (won + 1) later)) c in
     let same : lists b st m ≡ occ b waiting = ap (λ head. occ b (waiting_at head)) head_is in
     with_head b base st m (Active (a ∷ waiting)) (set st.slots s new) (omega arith) (λ t o. k.0 t) (omega (arith, k.0 m)) k.1 c
-settled_step b size base st event _ (Step.lost s m a won later saw queue e differs) c = same_heads b base st s _ _ st.loose st.gone st.named (in_range st s _ e) e (omega arith) (omega arith) c st.batches (omega arith)
-settled_step b size base st event _ (Step.added s a won queue d e h) c = subst (λ (d : State × Answer). Settled b base d.0) (some_is _ _ h) (same_heads b base st s _ _ st.loose st.gone st.named (in_range st s _ e) e (omega arith) (omega arith) c _ (omega (arith, length-set {A = Batch})))
-settled_step b size base st event _ (Step.subtracted s a walk queue d e h) c = subst (λ (d : State × Answer). Settled b base d.0) (some_is _ _ h) (same_heads b base st s _ _ st.loose st.gone st.named (in_range st s _ e) e (omega arith) (omega arith) c _ (omega (arith, length-set {A = Batch})))
+settled_step b size base st event _ (Step.lost s m a won later saw queue e differs) c = same_heads b base st s _ _ st.rest st.loose st.gone st.named (in_range st s _ e) e (omega arith) (omega arith) c st.batches (omega arith)
+settled_step b size base st event _ (Step.added s a won queue d e h) c = subst (λ (d : State × Answer). Settled b base d.0) (some_is _ _ h) (same_heads b base st s _ _ st.rest st.loose st.gone st.named (in_range st s _ e) e (omega arith) (omega arith) c _ (omega (arith, length-set {A = Batch})))
+settled_step b size base st event _ (Step.subtracted s a walk queue d e h) c = subst (λ (d : State × Answer). Settled b base d.0) (some_is _ _ h) (same_heads b base st s _ _ st.rest st.loose st.gone st.named (in_range st s _ e) e (omega arith) (omega arith) c _ (omega (arith, length-set {A = Batch})))
 settled_step b size base st event _ (Step.swapped_out s stays queue e) c =
     let new : Slot = record (slot_at st s) { call = Some (record { place = Rest [] (waiting_at (head_at st s)); queue = queue }) } in
     let r : s < length st.slots = in_range st s _ e in
@@ -167,8 +174,8 @@ settled_step b size base st event _ (Step.swapped_out s stays queue e) c =
     quiet : (stays : Bool) → occ b (waiting_at (if stays then Active [] else Inactive)) ≡ 0
     quiet true = refl
     quiet false = refl
-settled_step b size base st event _ (Step.handed s v puts given walk queue e new) c = same_heads b base st s _ _ st.loose _ _ (in_range st s _ e) e (omega arith) (omega arith) c st.batches (omega arith)
-settled_step b size base st event _ (Step.returned s e) c = same_heads b base st s (record (slot_at st s) { call = None }) _ st.loose st.gone st.named (in_range st s _ e) e (omega arith) (omega arith) c st.batches (omega arith)
+settled_step b size base st event _ (Step.handed s v puts given walk queue e new) c = same_heads b base st s _ _ st.rest st.loose _ _ (in_range st s _ e) e (omega arith) (omega arith) c st.batches (omega arith)
+settled_step b size base st event _ (Step.returned s e) c = same_heads b base st s (record (slot_at st s) { call = None }) _ st.rest st.loose st.gone st.named (in_range st s _ e) e (omega arith) (omega arith) c st.batches (omega arith)
 settled_step b size base st event _ (Step.read s l e) c = c
 settled_step b size base st event _ (Step.exchanged s l exchange new e fresh exact) c = record { lists_less = c.lists_less; held_less = c.held_less; unowned = c.unowned; there = c.there }
 settled_step b size base st event _ (Step.compared s l exchange e exact) c = c

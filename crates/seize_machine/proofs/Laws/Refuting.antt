@@ -6,7 +6,7 @@ use Rattle.std.proofs.lemmas.List.{get_or_past}
 use Rattle.std.proofs.lemmas.List.Folds.{list_any_at}
 use Rattle.seize_machine.specs.Machine.State.{State, Slot, no_slot, Inactive, slot_at, head_at, batch_at, is_active, waiting_at, has, linked_values, are_distinct}
 use Rattle.seize_machine.specs.Machine.History.{Moment, end_of, answers_of, named_by, WasNamed, retired_value, handed_value, handed, is_swap_out, Reclaimed, Retired, Found, IsActiveAt, HasParted}
-use Rattle.seize_machine.specs.Machine.Laws.{AtMostOnce, After, Quiet, is_quiet, bound, PutsWithin, IsBatched, Protection, Whereabouts, places, from_retirement, Gone, Holders, Lists, Walks, added_by, NoLaterHolders, given_up, UnderGuard, walk_of, detached_by, IsHeld, begins, during, changes_head, is_lost, Tries}
+use Rattle.seize_machine.specs.Machine.Laws.{AtMostOnce, After, Quiet, is_quiet, Unused, is_unused, bound, FillsWithin, IsBatched, Protection, Whereabouts, places, from_retirement, Gone, Holders, Lists, Walks, added_by, NoLaterHolders, given_up, UnderGuard, walk_of, detached_by, IsHeld, begins, during, changes_head, is_lost, Tries, IsRested, Unused, is_unused}
 use Rattle.seize_machine.specs.Machine.Event.{AddCount}
 use Rattle.seize_machine.specs.Machine.Next.{same_list}
 use Rattle.seize_machine.proofs.Steps.Relation.{is_true, some_is, same_list-refl}
@@ -77,8 +77,8 @@ batched v size st slot = has v slot.batch && nat_lt (length slot.batch) (bound s
 
 -- the list ends quiet, and a value was retired, is never handed, and is in no slot's batch within the bound
 pub not_quiet : (st : State) (ms : List Moment) (v q : ℕ) → is_quiet (end_of st ms) ≡ true → Retired ms v q → handed_ever v ms ≡ false
-    → (size : ℕ) → PutsWithin size ms → list_any (batched v size (end_of st ms)) (end_of st ms).slots ≡ false → ¬ (Quiet st ms)
-not_quiet st ms v q ends retired never size sizes none quiet = go (quiet ends v q retired)
+    → (size : ℕ) → FillsWithin size ms → list_any (batched v size (end_of st ms)) (end_of st ms).slots ≡ false → has v (end_of st ms).rest ≡ false → ¬ (Quiet st ms)
+not_quiet st ms v q ends retired never size sizes none no_rest quiet = go (quiet ends v q retired)
   where
     both : (a b : Bool) → a ≡ true → b ≡ true → (a && b) ≡ true
     both a b h k = rw h k
@@ -86,13 +86,18 @@ not_quiet st ms v q ends retired never size sizes none quiet = go (quiet ends v 
     short : (a b : ℕ) → a < b → nat_lt a b ≡ true
     short a b h = grind arith
 
-    go : ((c : ℕ) × Reclaimed ms v c) ⊎ IsBatched (end_of st ms) v ms → ⊥
+    go : ((c : ℕ) × Reclaimed ms v c) ⊎ IsBatched (end_of st ms) v ms ⊎ IsRested (end_of st ms) v ms → ⊥
     go (inl h) = not_both (handed_ever v ms) (has_handed ms v h.0 h.1) never
-    go (inr h) =
+    go (inr (inr h)) = not_both (has v (end_of st ms).rest) (contained (end_of st ms).rest v h.0) no_rest
+    go (inr (inl h)) =
         not_both _
         (some_at (batched v size (end_of st ms)) (end_of st ms).slots no_slot h.0 refl
         (both _ _ (contained (slot_at (end_of st ms) h.0).batch v h.1) (short _ _ (h.2 size sizes))))
         none
+
+-- no slot is in use, and a value was retired and is never handed
+pub not_unused : (st : State) (ms : List Moment) (v q : ℕ) → is_unused (end_of st ms) ≡ true → Retired ms v q → handed_ever v ms ≡ false → ¬ (Unused st ms)
+not_unused st ms v q ends retired never law = let h = law ends v q retired in not_both (handed_ever v ms) (has_handed ms v h.0 h.1) never
 
 -- a value is in two places
 pub not_distinct : (st : State) (ms : List Moment) → are_distinct (places (end_of st ms)) ≡ false → ¬ (Whereabouts st ms)

@@ -5,11 +5,11 @@ use Rattle.std.proofs.lemmas.List.{get_or-set_same, get_or-set_other, get_or_pus
 use Rattle.std.proofs.lemmas.List.Sums.{sum_by-cons, take_while-cons}
 use Rattle.seize_machine.specs.Machine.State.{no_slot, State, Slot, Progress, Head, Inactive, Active, Place, Append, Mark, Look, Try, Add, Out, Rest, slot_at, head_at, is_active, waiting_at, linked_values, are_distinct, opening}
 use Rattle.seize_machine.specs.Machine.Event.{Event, event_slot}
-use Rattle.seize_machine.specs.Machine.Next.{Outcome, next, look, marked_place, looked, same_list}
+use Rattle.seize_machine.specs.Machine.Next.{Outcome, next, look, marked_place, looked, same_list, taken_slot, taken_call}
 use Rattle.seize_machine.specs.Machine.History.{Timed, Moment}
 use Rattle.seize_machine.specs.Machine.Laws.{Tries, begins, returns, during, same_head, is_lost, changes_head}
 use Rattle.seize_machine.specs.declared.machine.event.Answer.{Answer}
-use Rattle.seize_machine.proofs.Steps.Relation.{Step, step_of, eq_true, and_true, some_is, same_list-refl}
+use Rattle.seize_machine.proofs.Steps.Relation.{Step, step_of, eq_true, and_true, some_is, same_list-refl, taken}
 use Rattle.seize_machine.proofs.Counting.Sums.{one}
 use Rattle.seize_machine.proofs.Invariants.Counts.{in_range, idle_range, idle_call, get_or_push_other}
 use Rattle.seize_machine.proofs.Invariants.Kept.{starts}
@@ -100,14 +100,20 @@ now n head slots i new r = ap (λ slot. call_stale n head slot.call) (get_or-set
 was : (n : ℕ) (head : Head) (st : State) (s : ℕ) (o : Option Progress) → (slot_at st s).call ≡ o → call_stale n head (slot_at st s).call ≡ call_stale n head o
 was n head st s o e = ap (call_stale n head) e
 
+taken_stale : (n : ℕ) (head : Head) (size slots : ℕ) (rest : List ℕ) → call_stale n head (taken_call size slots rest) ≡ 0
+taken_stale n head size slots rest = taken (λ o. call_stale n head o ≡ 0) size slots rest (λ h. refl) (λ h. refl)
+
 -- an event of the slot itself
 own_step : (n size : ℕ) (st : State) (event : Event) (d : State × Answer) → Step size st event d → one (is_lost (event_slot event) n event) + stale (event_slot event) n d.0 ≤ stale (event_slot event) n st
 own_step n size st event _ (Step.took_new s e least) =
-    let new : Slot = record { used = true; batch = []; call = None } in
-    let fresh : call_stale n (get_or (st.heads ++ Inactive ∷ []) n Inactive) (get_or (st.slots ++ new ∷ []) s no_slot).call ≡ 0 = ap (λ slot. call_stale n (get_or (st.heads ++ Inactive ∷ []) n Inactive) slot.call) (get_or_push st.slots new no_slot s (sym e)) in
+    let new : Slot = taken_slot size (length st.slots + 1) st.rest in
+    let fresh : call_stale n (get_or (st.heads ++ Inactive ∷ []) n Inactive) (get_or (st.slots ++ new ∷ []) s no_slot).call ≡ 0 =
+    ap (λ slot. call_stale n (get_or (st.heads ++ Inactive ∷ []) n Inactive) slot.call) (get_or_push st.slots new no_slot s (sym e)) ∙ taken_stale n _ size (length st.slots + 1) st.rest in
     omega arith
-own_step n size st event _ (Step.took_old s r e least) = omega (arith, now n (head_at st n) st.slots s (record (slot_at st s) { used = true }) r)
-own_step n size st event _ (Step.gave s e off) = omega (arith, now n (head_at st n) st.slots s (record (slot_at st s) { used = false }) (idle_range st s e))
+own_step n size st event _ (Step.took_old s r e least) = omega (arith, now n (head_at st n) st.slots s (taken_slot size (length st.slots) st.rest) r, taken_stale n (head_at st n) size (length st.slots) st.rest)
+own_step n size st event _ (Step.gave s e off ends) = omega (arith, now n (head_at st n) st.slots s no_slot (idle_range st s e))
+own_step n size st event _ (Step.gathered s e off lone some) =
+    omega (arith, now n (head_at st n) st.slots s (record { used = true; batch = st.rest ++ (slot_at st s).batch; call = Some (record { place = Mark 0 (length st.slots) []; queue = [] }) }) (idle_range st s e))
 own_step n size st event _ (Step.entered s e off) = omega (arith, was n (get_or (set st.heads s (Active [])) n Inactive) st s None (idle_call (slot_at st s) e))
 own_step n size st event _ (Step.begun_retire s v e new) = omega (arith, now n (head_at st n) st.slots s (record (slot_at st s) { call = Some (record { place = Append v; queue = [] }) }) (idle_range st s e))
 own_step n size st event _ (Step.begun_other s job place e which exact) =
@@ -151,9 +157,10 @@ set_away : (slots : List Slot) (i s : ℕ) (new : Slot) → (i == s) ≡ false �
 set_away slots i s new t = let other : s ≢ i = grind arith in get_or-set_other slots i s new no_slot other
 
 other_slot : (s size : ℕ) (st : State) (event : Event) (d : State × Answer) → Step size st event d → (event_slot event == s) ≡ false → slot_at d.0 s ≡ slot_at st s
-other_slot s size st event _ (Step.took_new i e least) t = let other : length st.slots ≢ s = grind arith in get_or_push_other st.slots (record { used = true; batch = []; call = None }) no_slot s other
+other_slot s size st event _ (Step.took_new i e least) t = let other : length st.slots ≢ s = grind arith in get_or_push_other st.slots (taken_slot size (length st.slots + 1) st.rest) no_slot s other
 other_slot s size st event _ (Step.took_old i r e least) t = set_away st.slots i s _ t
-other_slot s size st event _ (Step.gave i e off) t = set_away st.slots i s _ t
+other_slot s size st event _ (Step.gave i e off ends) t = set_away st.slots i s _ t
+other_slot s size st event _ (Step.gathered i e off lone some) t = set_away st.slots i s _ t
 other_slot s size st event _ (Step.entered i e off) t = refl
 other_slot s size st event _ (Step.begun_retire i v e new) t = set_away st.slots i s _ t
 other_slot s size st event _ (Step.begun_other i job place e which exact) t = set_away st.slots i s _ t
@@ -228,6 +235,17 @@ tries_run s n (t ∷ ts) st = go (next t.size st t.event) refl (tries_run s n ts
 
 -- where a call begins, it has read no head
 begun_stale : (s n size : ℕ) (st : State) (event : Event) (d : State × Answer) → Step size st event d → begins s event ≡ true → stale s n d.0 ≡ 0
+begun_stale s n size st event _ (Step.took_new i e least) own =
+    let new : Slot = taken_slot size (length st.slots + 1) st.rest in
+    subst (λ s. call_stale n (get_or (st.heads ++ Inactive ∷ []) n Inactive) (get_or (st.slots ++ new ∷ []) s no_slot).call ≡ 0) (eq_true i s own)
+    (ap (λ slot. call_stale n (get_or (st.heads ++ Inactive ∷ []) n Inactive) slot.call) (get_or_push st.slots new no_slot i (sym e)) ∙ taken_stale n _ size (length st.slots + 1) st.rest)
+begun_stale s n size st event _ (Step.took_old i r e least) own =
+    let new : Slot = taken_slot size (length st.slots) st.rest in
+    subst (λ s. call_stale n (head_at st n) (get_or (set st.slots i new) s no_slot).call ≡ 0) (eq_true i s own)
+    (now n (head_at st n) st.slots i new r ∙ taken_stale n (head_at st n) size (length st.slots) st.rest)
+begun_stale s n size st event _ (Step.gathered i e off lone some) own =
+    let new : Slot = record { used = true; batch = st.rest ++ (slot_at st i).batch; call = Some (record { place = Mark 0 (length st.slots) []; queue = [] }) } in
+    subst (λ s. call_stale n (head_at st n) (get_or (set st.slots i new) s no_slot).call ≡ 0) (eq_true i s own) (now n (head_at st n) st.slots i new (idle_range st i e))
 begun_stale s n size st event _ (Step.begun_retire i v e new) own =
     subst (λ s. call_stale n (head_at st n) (get_or (set st.slots i (record (slot_at st i) { call = Some (record { place = Append v; queue = [] }) })) s no_slot).call ≡ 0) (eq_true i s own)
     (now n (head_at st n) st.slots i (record (slot_at st i) { call = Some (record { place = Append v; queue = [] }) }) (idle_range st i e))

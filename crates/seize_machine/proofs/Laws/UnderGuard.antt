@@ -7,11 +7,11 @@ use Rattle.std.proofs.lemmas.List.{get_or-set_same, get_or_past}
 use Rattle.std.proofs.lemmas.List.Sums.{get_or-le-sum_by}
 use Rattle.seize_machine.specs.Machine.State.{no_slot, State, Slot, Progress, Head, Inactive, Active, Place, Append, Mark, Look, Try, Add, Out, Rest, slot_at, head_at, batch_at, is_active, waiting_at, linked_values, are_distinct, opening}
 use Rattle.seize_machine.specs.Machine.Event.{Event, AddCount}
-use Rattle.seize_machine.specs.Machine.Next.{next, look, marked_place, looked, is_zero}
+use Rattle.seize_machine.specs.Machine.Next.{next, look, marked_place, looked, is_zero, taken_slot, taken_call}
 use Rattle.seize_machine.specs.Machine.History.{Timed, Moment, IsReached}
 use Rattle.seize_machine.specs.Machine.Laws.{given_up, UnderGuard}
 use Rattle.seize_machine.specs.declared.machine.event.Answer.{Answer}
-use Rattle.seize_machine.proofs.Steps.Relation.{Step, Stands, step_of, some_is, is_true, eq_true}
+use Rattle.seize_machine.proofs.Steps.Relation.{Step, Stands, step_of, some_is, is_true, eq_true, taken}
 use Rattle.seize_machine.proofs.Counting.Sums.{one, occ}
 use Rattle.seize_machine.proofs.Invariants.Counts.{Counted, of_calls, wins, listed, in_range, idle_range, idle_call, head_range, wins_alone}
 use Rattle.seize_machine.proofs.Invariants.Kept.{WillMark, at_set, pushed, starts, marked_marks, zero_is}
@@ -116,13 +116,18 @@ module _ (st : State) (i m b won : ℕ) (later saw queue waiting : List ℕ) (e 
       (λ same r. subst (λ s. is_active (get_or heads s Inactive) ≡ true → Includes s (waiting_at (get_or heads s Inactive)) (look b (won + 1) later)) same goes_on on)
       (let was = grown s on in longer_call s (waiting_at (head_at st s)) (waiting_at (get_or heads s Inactive)) (slot_at st s).call was.1 (c s was.0))
 
+taken_includes : (s : ℕ) (waiting : List ℕ) (size n : ℕ) (rest : List ℕ) → s < n → OfCall s waiting (taken_call size n rest)
+taken_includes s waiting size n rest r = taken (OfCall s waiting) size n rest (λ h. tt) (λ h. (r, λ h. absurd (omega arith)))
+
 pub own_step : (size : ℕ) (st : State) (event : Event) (d : State × Answer) → Step size st event d → Own st → Own d.0
 own_step size st event _ (Step.took_new i e least) c = λ s.
+    let new : Slot = taken_slot size (length st.slots + 1) st.rest in
     let same : get_or (st.heads ++ Inactive ∷ []) s Inactive ≡ head_at st s = pushed (λ head. head ≡ head_at st s) st.heads s Inactive Inactive (λ at. sym (get_or_past st.heads s Inactive (omega (arith, at)))) refl in
-    subst (λ head. is_active head ≡ true → OfCall s (waiting_at head) (get_or (st.slots ++ record { used = true; batch = []; call = None } ∷ []) s no_slot).call) (sym same)
-    (λ on. pushed (λ slot. OfCall s (waiting_at (head_at st s)) slot.call) st.slots s (record { used = true; batch = []; call = None }) no_slot (λ at. tt) (c s on))
-own_step size st event _ (Step.took_old i r e least) c = own_set st i (record (slot_at st i) { used = true }) c (c i)
-own_step size st event _ (Step.gave i e off) c = own_set st i (record (slot_at st i) { used = false }) c (c i)
+    subst (λ head. is_active head ≡ true → OfCall s (waiting_at head) (get_or (st.slots ++ new ∷ []) s no_slot).call) (sym same)
+    (λ on. pushed (λ slot. OfCall s (waiting_at (head_at st s)) slot.call) st.slots s new no_slot (λ at. taken_includes s (waiting_at (head_at st s)) size (length st.slots + 1) st.rest (omega (arith, at))) (c s on))
+own_step size st event _ (Step.took_old i r e least) c = own_set st i (taken_slot size (length st.slots) st.rest) c (λ on. taken_includes i (waiting_at (head_at st i)) size (length st.slots) st.rest r)
+own_step size st event _ (Step.gave i e off ends) c = own_set st i no_slot c (λ on. tt)
+own_step size st event _ (Step.gathered i e off lone some) c = own_set st i _ c (λ on. (idle_range st i e, λ h. absurd (omega arith)))
 own_step size st event _ (Step.entered i e off) c = λ s.
     at_set (λ head. is_active head ≡ true → OfCall s (waiting_at head) (slot_at st s).call) st.heads i s (Active []) Inactive
     (λ same r on. subst (λ s. OfCall s [] (slot_at st s).call) same (subst (λ o. OfCall i [] o) (sym (idle_call (slot_at st i) e)) tt)) (c s)

@@ -41,9 +41,13 @@ occ-four v a b c d = omega (arith, occ-append v a b, occ-append v (a ++ b) c, oc
 
 occ-from : (v : ℕ) (st : State) → occ v (from_retirement st) ≡ parts v st
 occ-from v st =
-    occ-four v (flat_map (λ slot. slot.batch) st.slots) (flat_map (λ batch. batch.values) st.batches) (flat_map (λ slot. given_up slot.call) st.slots) st.gone
-    ∙ ap (λ k. k + occ v (flat_map (λ batch. batch.values) st.batches) + occ v st.gone) (occ-slots v st.slots)
-    ∙ ap (λ k. kept_in v st.slots + k + occ v st.gone) (occ-flat_map v (λ batch. batch.values) st.batches)
+    occ-append v (flat_map (λ slot. slot.batch) st.slots ++ flat_map (λ batch. batch.values) st.batches ++ flat_map (λ slot. given_up slot.call) st.slots ++ st.gone) st.rest
+    ∙ omega (
+      arith,
+      occ-four v (flat_map (λ slot. slot.batch) st.slots) (flat_map (λ batch. batch.values) st.batches) (flat_map (λ slot. given_up slot.call) st.slots) st.gone,
+      occ-slots v st.slots,
+      occ-flat_map v (λ batch. batch.values) st.batches,
+    )
 
 -- what a call has is what it is to retire and what it is to hand
 occ-call : (v : ℕ) (call : Option Progress) → occ v (to_retire call) + given v call ≡ call_has v call
@@ -113,7 +117,7 @@ law_whereabouts slots links ts distinct = (distinct_if (all_places end) once, λ
     placed v n = contains_some v (all_places end) (omega (arith, occ-places v end, (stands v).all, if_named v ts slots links n))
 
     into : (v : ℕ) → Contains (from_retirement end) v → (q : ℕ) × Retired (run st ts) v q
-    into v c = retired_if v ts st (none_retired v slots links) (omega (arith, occ-from v end, some_contained v (from_retirement end) c))
+    into v c = retired_if v ts st (opening_inv slots links distinct).sound.free (none_retired v slots links) (omega (arith, occ-from v end, some_contained v (from_retirement end) c))
 
     out : (v : ℕ) → (q : ℕ) × Retired (run st ts) v q → Contains (from_retirement end) v
-    out v r = contains_some v (from_retirement end) (omega (arith, occ-from v end, if_retired v r.0 ts st r.1))
+    out v r = contains_some v (from_retirement end) (omega (arith, occ-from v end, if_retired v r.0 ts st (opening_inv slots links distinct).sound.free r.1))

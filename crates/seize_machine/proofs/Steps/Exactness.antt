@@ -4,7 +4,7 @@ use Rattle.seize_machine.specs.Machine.State.{State, Slot, Progress, Head, Inact
 use Rattle.seize_machine.specs.Machine.Event.{Event, Begin}
 use Rattle.seize_machine.specs.Machine.Next.{Outcome, scheme, next, of_call, moved_call, own, is_outside, slot_set, set_head, begun, put_at, put_into, mark_at, looking_at, looked_on, slot_read, can_detach_at, detached_on, trying_at, won_on, insert_into, insert, is_changed, can_lose_at, lost_on, same_list, is_zero, adding_at, add_count, walking_at, walked_on, sub_count, leaving_at, swap_out, handing_at, handed_on, hand, return_at, is_none_or_fresh}
 use Rattle.seize_machine.specs.declared.machine.event.Job.{Job}
-use Rattle.seize_machine.specs.declared.machine.event.Job.TheVariants.{Retire, Flush, Leave, Refresh}
+use Rattle.seize_machine.specs.declared.machine.event.Job.TheVariants.{Retire, Flush, Leave, Refresh, Gather}
 use Rattle.seize_machine.specs.declared.machine.event.Answer.{Answer}
 use Rattle.seize_machine.specs.declared.machine.event.Answer.TheVariants.{Done, Head as HeadRead, Handed, Link}
 use Rattle.seize_machine.proofs.Steps.Relation.{Step, swapped, beginning, put_is, moved_to, counted_call, is_true, eq_true}
@@ -57,6 +57,7 @@ outside st s idle off = both _ _ idle (ap not off)
 begins : (size : ℕ) (st : State) (s : ℕ) (job : Job) (place : Place) → is_idle (slot_at st s) ≡ true → is_active (head_at st s) ≡ true → beginning st s job ≡ Some place → next size st (Begin s job) ≡ Some (begun st s place, Done)
 begins size st s (Retire v) place idle on from = absurd (cc)
 begins size st s Flush place idle on from = yes _ _ _ (both _ _ idle on) ∙ ap (λ (o : Option Place). elim o [ None ↦ None | Some place ↦ Some (begun st s place, Done) ]) from
+begins size st s Gather place idle on from = absurd (cc)
 begins size st s Leave place idle on from = yes _ _ _ (both _ _ idle on) ∙ ap (λ (o : Option Place). elim o [ None ↦ None | Some place ↦ Some (begun st s place, Done) ]) from
 begins size st s Refresh place idle on from = yes _ _ _ (both _ _ idle on) ∙ ap (λ (o : Option Place). elim o [ None ↦ None | Some place ↦ Some (begun st s place, Done) ]) from
 
@@ -89,7 +90,8 @@ next_of size st event _ (Step.took_old s r e least) =
   where
     other : (a b : ℕ) → a < b → (a == b) ≡ false
     other a b h = grind arith
-next_of size st event _ (Step.gave s e off) = yes _ _ _ (outside st s e off)
+next_of size st event _ (Step.gave s e off ends) = yes _ _ _ (both _ _ (outside st s e off) ends)
+next_of size st event _ (Step.gathered s e off alone some) = yes _ _ _ (both _ _ (both _ _ (outside st s e off) (ap not alone)) (ap not some))
 next_of size st event _ (Step.entered s e off) = yes _ _ _ (outside st s e off)
 next_of size st event _ (Step.begun_retire s v e new) = yes _ _ _ (both _ _ e (may st v new))
 next_of size st event _ (Step.begun_other s job place e which exact) = begins size st s job place e exact.0 exact.1

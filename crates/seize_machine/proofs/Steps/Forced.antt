@@ -46,7 +46,8 @@ pub forced : (size : ℕ) (st : State) (s : ℕ) (place : Place) (queue : List �
     → (slot_at st s).used ≡ true → Stands st s place queue → Forced st s place queue e
 forced size st s place queue e _ (Step.took_new i at least) same apart used now = none st i s place queue same (ap (λ (slot : Slot). slot.call) (get_or_past st.slots i no_slot (omega (arith, at)))) now
 forced size st s place queue e _ (Step.took_old i r free least) same apart used now = absurd (let k : false ≡ true = sym free ∙ ap (λ (k : ℕ). (slot_at st k).used) same ∙ used in cc)
-forced size st s place queue e _ (Step.gave i idle off) same apart used now = none st i s place queue same (idle_call (slot_at st i) idle) now
+forced size st s place queue e _ (Step.gave i idle off ends) same apart used now = none st i s place queue same (idle_call (slot_at st i) idle) now
+forced size st s place queue e _ (Step.gathered i idle off alone some) same apart used now = none st i s place queue same (idle_call (slot_at st i) idle) now
 forced size st s place queue e _ (Step.entered i idle off) same apart used now = none st i s place queue same (idle_call (slot_at st i) idle) now
 forced size st s place queue e _ (Step.begun_retire i v idle new) same apart used now = none st i s place queue same (idle_call (slot_at st i) idle) now
 forced size st s place queue e _ (Step.begun_other i job to idle which exact) same apart used now = none st i s place queue same (idle_call (slot_at st i) idle) now

@@ -5,9 +5,9 @@ use Rattle.seize_machine.specs.Machine.State.{no_slot, no_batch, State, Slot, Pr
 use Rattle.seize_machine.specs.Machine.Event.{Event}
 use Rattle.seize_machine.specs.Machine.Next.{of_call, walking_at}
 use Rattle.seize_machine.specs.Machine.Laws.{added_batch}
-use Rattle.seize_machine.specs.Machine.Frames.{changes_slot, used, changes_used, changes_head_of, changes_link, is_number, changes_batch, changes_value, slots_added, batches_added, begins_retiring}
+use Rattle.seize_machine.specs.Machine.Frames.{changes_slot, used, changes_used, changes_numbers, changes_head_of, changes_link, is_number, changes_batch, changes_value, slots_added, batches_added, begins_retiring}
 use Rattle.seize_machine.specs.declared.machine.event.Answer.{Answer}
-use Rattle.seize_machine.proofs.Steps.Relation.{Step, some_is, is_true}
+use Rattle.seize_machine.proofs.Steps.Relation.{Step, some_is, is_true, and_true}
 use Rattle.seize_machine.proofs.Invariants.Kept.{at_set, pushed}
 
 differ : (a k : ℕ) → (a == k) ≡ false → k ≡ a → ⊥
@@ -26,7 +26,8 @@ new_head st m = pushed (λ head. head ≡ head_at st m) st.heads m Inactive Inac
 pub slot_frame : (k size : ℕ) (st : State) (event : Event) (d : State × Answer) → Step size st event d → changes_slot k event ≡ false → slot_at d.0 k ≡ slot_at st k
 slot_frame k size st event _ (Step.took_new s e least) n = pushed (λ slot. slot ≡ slot_at st k) st.slots k _ no_slot (λ i. absurd (differ s k n (sym (e ∙ i)))) refl
 slot_frame k size st event _ (Step.took_old s l e least) n = other_slot k st s _ n
-slot_frame k size st event _ (Step.gave s e off) n = other_slot k st s _ n
+slot_frame k size st event _ (Step.gave s e off ends) n = other_slot k st s _ n
+slot_frame k size st event _ (Step.gathered s e off alone some) n = other_slot k st s _ n
 slot_frame k size st event _ (Step.entered s e off) n = refl
 slot_frame k size st event _ (Step.begun_retire s v e new) n = other_slot k st s _ n
 slot_frame k size st event _ (Step.begun_other s job place e which exact) n = other_slot k st s _ n
@@ -94,7 +95,8 @@ same_used st s new e = map_set (λ (slot : Slot). slot.used) st.slots s new no_s
 pub used_frame : (size : ℕ) (st : State) (event : Event) (d : State × Answer) → Step size st event d → changes_used event ≡ false → used d.0 ≡ used st
 used_frame size st event _ (Step.took_new s e least) n = absurd (cc)
 used_frame size st event _ (Step.took_old s l e least) n = absurd (cc)
-used_frame size st event _ (Step.gave s e off) n = absurd (cc)
+used_frame size st event _ (Step.gave s e off ends) n = absurd (cc)
+used_frame size st event _ (Step.gathered s e off alone some) n = same_used st s _ (sym (and_true _ _ e).0)
 used_frame size st event _ (Step.entered s e off) n = refl
 used_frame size st event _ (Step.begun_retire s v e new) n = same_used st s _ refl
 used_frame size st event _ (Step.begun_other s job place e which exact) n = same_used st s _ refl
@@ -113,6 +115,16 @@ used_frame size st event _ (Step.read s l e) n = refl
 used_frame size st event _ (Step.exchanged s l exchange new e fresh exact) n = refl
 used_frame size st event _ (Step.compared s l exchange e exact) n = refl
 
+-- the rest
+pub rest_frame : (size : ℕ) (st : State) (event : Event) (d : State × Answer) → Step size st event d → changes_numbers event ≡ false → (d.0).rest ≡ st.rest
+rest_frame size st event _ (Step.took_new s e least) n = absurd (cc)
+rest_frame size st event _ (Step.took_old s l e least) n = absurd (cc)
+rest_frame size st event _ (Step.gave s e off ends) n = absurd (cc)
+rest_frame size st event _ (Step.gathered s e off alone some) n = absurd (cc)
+rest_frame size st event _ (Step.added s b won queue d e h) n = ap (λ (x : State × Answer). (x.0).rest) (sym (some_is _ _ h))
+rest_frame size st event _ (Step.subtracted s b walk queue d e h) n = ap (λ (x : State × Answer). (x.0).rest) (sym (some_is _ _ h))
+rest_frame size st event _ _ n = refl
+
 -- how many slots, heads, links and retired batches there are
 
 same_length : (n m : ℕ) → n ≡ m → n ≡ m + 0
@@ -127,7 +139,8 @@ old_slot k n s m e l = let t : (s == m) ≡ false = grind arith in same_length k
 pub slots_length : (size : ℕ) (st : State) (event : Event) (d : State × Answer) → Step size st event d → length (d.0).slots ≡ length st.slots + slots_added st event
 slots_length size st event _ (Step.took_new s e least) = new_slot _ (length st.slots) s (length st.slots) e (length_push st.slots _)
 slots_length size st event _ (Step.took_old s l e least) = old_slot _ (length st.slots) s (length st.slots) (length-set st.slots s _) l
-slots_length size st event _ (Step.gave s e off) = same_length _ _ (length-set st.slots s _)
+slots_length size st event _ (Step.gave s e off ends) = same_length _ _ (length-set st.slots s _)
+slots_length size st event _ (Step.gathered s e off alone some) = same_length _ _ (length-set st.slots s _)
 slots_length size st event _ (Step.entered s e off) = same_length _ _ refl
 slots_length size st event _ (Step.begun_retire s v e new) = same_length _ _ (length-set st.slots s _)
 slots_length size st event _ (Step.begun_other s job place e which exact) = same_length _ _ (length-set st.slots s _)
@@ -158,7 +171,8 @@ batches_length size st event _ (Step.added s b won queue d e h) = same_length _ 
 batches_length size st event _ (Step.subtracted s b walk queue d e h) = same_length _ _ (ap (λ (x : State × Answer). length (x.0).batches) (sym (some_is _ _ h)) ∙ length-set st.batches b _)
 batches_length size st event _ (Step.took_new s e least) = same_length _ _ refl
 batches_length size st event _ (Step.took_old s l e least) = same_length _ _ refl
-batches_length size st event _ (Step.gave s e off) = same_length _ _ refl
+batches_length size st event _ (Step.gave s e off ends) = same_length _ _ refl
+batches_length size st event _ (Step.gathered s e off alone some) = same_length _ _ refl
 batches_length size st event _ (Step.entered s e off) = same_length _ _ refl
 batches_length size st event _ (Step.begun_retire s v e new) = same_length _ _ refl
 batches_length size st event _ (Step.begun_other s job place e which exact) = same_length _ _ refl

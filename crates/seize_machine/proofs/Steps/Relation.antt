@@ -3,9 +3,9 @@ use Rattle.std.proofs.Common.{◌≡◌, ◌≢◌, ℕ, ◌+◌, ◌-◌, ◌^�
 use Rattle.std.proofs.lemmas.List.Sums.{prefix_len-le-length, passes_at_first}
 use Rattle.seize_machine.specs.Machine.State.{no_slot, State, Slot, Progress, Head, Inactive, Active, Place, Append, Mark, Look, Try, Add, Out, Rest, slot_at, head_at, batch_at, link_at, is_active, waiting_at, has, is_idle}
 use Rattle.seize_machine.specs.Machine.Event.{Event, Take, Give, Enter, Begin, Put, ReadHead, Detach, Insert, AddCount, SwapOut, SubCount, Hand, Return, ReadLink, ExchangeLink}
-use Rattle.seize_machine.specs.Machine.Next.{Outcome, scheme, next, of_call, moved, moved_call, own, first_free, is_outside, is_empty, slot_set, set_head, begun, retiring, flushing_at, begin_active, begin, put_into, put_at, slot_put, marking, mark_at, slot_mark, looking_at, looked_on, slot_read, look, marked_place, looked, can_detach_at, can_detach, detached_on, detach, trying_at, won_on, insert_into, insert, is_changed, can_lose_at, lost_on, slot_lost, same_list, is_zero, adding_at, add_count, walking_at, walked_on, sub_count, leaving_at, swap_out, are_fresh, handing_at, handed_on, hand, return_at, slot_return, can_link, is_none_or_fresh, new_link, is_stored, exchange_link}
+use Rattle.seize_machine.specs.Machine.Next.{Outcome, scheme, next, taken_slot, taken_call, ends_now, has_others, after_give, after_gather, of_call, moved, moved_call, own, first_free, is_outside, is_empty, slot_set, set_head, begun, retiring, flushing_at, begin_active, begin, put_into, put_at, slot_put, marking, mark_at, slot_mark, looking_at, looked_on, slot_read, look, marked_place, looked, can_detach_at, can_detach, detached_on, detach, trying_at, won_on, insert_into, insert, is_changed, can_lose_at, lost_on, slot_lost, same_list, is_zero, adding_at, add_count, walking_at, walked_on, sub_count, leaving_at, swap_out, are_fresh, handing_at, handed_on, hand, return_at, slot_return, can_link, is_none_or_fresh, new_link, is_stored, exchange_link}
 use Rattle.seize_machine.specs.declared.machine.event.Job.{Job}
-use Rattle.seize_machine.specs.declared.machine.event.Job.TheVariants.{Retire, Flush, Leave, Refresh}
+use Rattle.seize_machine.specs.declared.machine.event.Job.TheVariants.{Retire, Flush, Leave, Refresh, Gather}
 use Rattle.seize_machine.specs.declared.machine.event.Try.TheVariants.{Won, Lost}
 use Rattle.seize_machine.specs.declared.machine.event.Exchange.{Exchange}
 use Rattle.seize_machine.specs.declared.machine.event.Answer.{Answer}
@@ -43,10 +43,20 @@ beginning st s (Retire v) = None
 beginning st s Flush = Some (flushing_at (length st.slots) (slot_at st s).batch)
 beginning st s Leave = Some (Out false)
 beginning st s Refresh = Some (Out true)
+beginning st s Gather = None
 
 -- where a call goes on that has put a value in this batch, where there are so many slots
 abbrev pub after_put : ℕ → ℕ → List ℕ → Place
 after_put size slots batch = if nat_le (max 1 size) (length batch) then Mark 0 slots [] else Rest [] []
+
+-- what holds of a slot that takes a number: it has no call, or reads the heads for a full batch
+pub taken : (P : Option Progress → Type 0) (size n : ℕ) (rest : List ℕ) → (length rest < max 1 size → P None)
+    → (max 1 size ≤ length rest → P (Some (record { place = Mark 0 n []; queue = [] }))) → P (taken_call size n rest)
+taken P size n rest none full = go (nat_le (max 1 size) (length rest)) refl
+  where
+    go : (b : Bool) → nat_le (max 1 size) (length rest) ≡ b → P (if b then Some (record { place = Mark 0 n []; queue = [] }) else None)
+    go true e = full (grind arith)
+    go false e = none (grind arith)
 
 -- slot s has a call under way that stands so
 abbrev pub Stands : State → ℕ → Place → List ℕ → Type 0
@@ -54,11 +64,13 @@ Stands st s place queue = (slot_at st s).call ≡ Some (record { place = place; 
 
 pub data Step (size : ℕ) (st : State) : Event → State × Answer → Type 0 where
   took_new : (s : ℕ) → s ≡ length st.slots → (s ≡ first_free st.slots) × (s < 2 ^ 64 - 32)
-      → Step size st (Take s) (record st { slots = st.slots ++ record { used = true; batch = []; call = None } ∷ []; heads = st.heads ++ Inactive ∷ [] }, Done)
+      → Step size st (Take s) (record st { slots = st.slots ++ taken_slot size (length st.slots + 1) st.rest ∷ []; heads = st.heads ++ Inactive ∷ []; rest = [] }, Done)
   took_old : (s : ℕ) → s < length st.slots → (slot_at st s).used ≡ false → (s ≡ first_free st.slots) × (s < 2 ^ 64 - 32)
-      → Step size st (Take s) (slot_set st s (record (slot_at st s) { used = true }), Done)
-  gave : (s : ℕ) → is_idle (slot_at st s) ≡ true → is_active (head_at st s) ≡ false
-      → Step size st (Give s) (slot_set st s (record (slot_at st s) { used = false }), Done)
+      → Step size st (Take s) (record st { slots = slice_set st.slots s (taken_slot size (length st.slots) st.rest); rest = [] }, Done)
+  gave : (s : ℕ) → is_idle (slot_at st s) ≡ true → is_active (head_at st s) ≡ false → ends_now (has_others st s) (slot_at st s).batch st.rest ≡ true
+      → Step size st (Give s) (after_give st s, Done)
+  gathered : (s : ℕ) → is_idle (slot_at st s) ≡ true → is_active (head_at st s) ≡ false → has_others st s ≡ false
+      → (is_empty (slot_at st s).batch && is_empty st.rest) ≡ false → Step size st (Begin s Gather) (after_gather st s, Done)
   entered : (s : ℕ) → is_idle (slot_at st s) ≡ true → is_active (head_at st s) ≡ false
       → Step size st (Enter s) (set_head st s (Active []), Done)
   begun_retire : (s v : ℕ) → is_idle (slot_at st s) ≡ true → (has v st.named ≡ false) ⊎ (has v st.loose ≡ true)
@@ -184,7 +196,7 @@ step_take size st s d h =
     subst (λ d. Step size st (Take s) d) w.1 (go (eq_true _ _ t.0) (lt_true _ _ t.1) (s == length st.slots) refl)
   where
     go : s ≡ first_free st.slots → s < 2 ^ 64 - 32 → (b : Bool) → (s == length st.slots) ≡ b
-        → Step size st (Take s) ((if b then record st { slots = st.slots ++ record { used = true; batch = []; call = None } ∷ []; heads = st.heads ++ Inactive ∷ [] } else slot_set st s (record (slot_at st s) { used = true })), Done)
+        → Step size st (Take s) ((if b then record st { slots = st.slots ++ taken_slot size (length st.slots + 1) st.rest ∷ []; heads = st.heads ++ Inactive ∷ []; rest = [] } else record st { slots = slice_set st.slots s (taken_slot size (length st.slots) st.rest); rest = [] }), Done)
     go s_is few true e = took_new s (eq_true _ _ e) (s_is, few)
     go s_is few false e =
         let below : first_free st.slots ≤ length st.slots = prefix_len-le-length _ st.slots in
@@ -218,6 +230,12 @@ step_begin size st s Flush d h = step_begin_active size st s Flush _ d h (which 
     which false = grind arith
 step_begin size st s Leave d h = step_begin_active size st s Leave _ d h (inr (inr (inr refl))) refl
 step_begin size st s Refresh d h = step_begin_active size st s Refresh _ d h (inr (inr (inl refl))) refl
+step_begin size st s Gather d h =
+    let w : ((is_outside st s && not (has_others st s) && not (is_empty (slot_at st s).batch && is_empty st.rest)) ≡ true) × _ = if_some _ _ _ h in
+    let a : ((is_outside st s && not (has_others st s)) ≡ true) × (not (is_empty (slot_at st s).batch && is_empty st.rest) ≡ true) = and_true _ _ w.0 in
+    let b : (is_outside st s ≡ true) × (not (has_others st s) ≡ true) = and_true _ _ a.0 in
+    let t : (is_idle (slot_at st s) ≡ true) × (is_active (head_at st s) ≡ false) = outside st s b.0 in
+    subst (λ d. Step size st (Begin s Gather) d) w.1 (gathered s t.0 t.1 (not_true _ b.1) (not_true _ a.1))
 
 put_place : (k n : ℕ) (batch : List ℕ) → (((if nat_le k (length batch) then Mark 0 n [] else Rest [] []) ≡ Rest [] []) × (length batch < k)) ⊎ ((if nat_le k (length batch) then Mark 0 n [] else Rest [] []) ≡ Mark 0 n [])
 put_place k n batch = go (nat_le k (length batch)) refl
@@ -467,9 +485,10 @@ step_link size st s l exchange d h =
 pub step_of : (size : ℕ) (st : State) (event : Event) (d : State × Answer) → next size st event ≡ Some d → Step size st event d
 step_of size st (Take s) d h = step_take size st s d h
 step_of size st (Give s) d h =
-    let w : (is_outside st s ≡ true) × _ = if_some _ _ _ h in
-    let t : (is_idle (slot_at st s) ≡ true) × (is_active (head_at st s) ≡ false) = outside st s w.0 in
-    subst (λ d. Step size st (Give s) d) w.1 (gave s t.0 t.1)
+    let w : ((is_outside st s && ends_now (has_others st s) (slot_at st s).batch st.rest) ≡ true) × _ = if_some _ _ _ h in
+    let a : (is_outside st s ≡ true) × (ends_now (has_others st s) (slot_at st s).batch st.rest ≡ true) = and_true _ _ w.0 in
+    let t : (is_idle (slot_at st s) ≡ true) × (is_active (head_at st s) ≡ false) = outside st s a.0 in
+    subst (λ d. Step size st (Give s) d) w.1 (gave s t.0 t.1 a.1)
 step_of size st (Enter s) d h =
     let w : (is_outside st s ≡ true) × _ = if_some _ _ _ h in
     let t : (is_idle (slot_at st s) ≡ true) × (is_active (head_at st s) ≡ false) = outside st s w.0 in

@@ -1,10 +1,10 @@
 -- Wrong machines, each the right scheme with one of its choices changed, and for each a list of events, legal under it, on which
 -- it breaks a law.
-use Rattle.std.specs.Prelude.{ℕ, ◌+◌, ℤ, pos, negsuc, ◌+ℤ◌, Bool, true, false, not, ◌&&◌, ◌==◌, if◌then◌else◌, nat_lt, nat_le, List, [], ◌∷◌, ◌++◌, map, length, slice_set, Some, None}
+use Rattle.std.specs.Prelude.{ℕ, ◌+◌, ℤ, pos, negsuc, ◌+ℤ◌, Bool, true, false, not, ◌||◌, ◌&&◌, ◌==◌, if◌then◌else◌, nat_lt, nat_le, List, [], ◌∷◌, ◌++◌, map, length, slice_set, Some, None}
 use Rattle.std.specs.List.{list_all}
 use Rattle.seize_machine.specs.Machine.State.{Batch, Head, Inactive, Active, Place, Mark, Try, Rest, is_active, waiting_at}
-use Rattle.seize_machine.specs.Machine.Event.{Event, Take, Enter, Begin, Put, ReadHead, Detach, Insert, AddCount, SwapOut, SubCount, Hand, Return, ReadLink, ExchangeLink}
-use Rattle.seize_machine.specs.Machine.Next.{Transition, next_by, scheme, is_empty, is_zero, all_if, look}
+use Rattle.seize_machine.specs.Machine.Event.{Event, Take, Give, Enter, Begin, Put, ReadHead, Detach, Insert, AddCount, SwapOut, SubCount, Hand, Return, ReadLink, ExchangeLink}
+use Rattle.seize_machine.specs.Machine.Next.{Transition, next_by, scheme, taken_slot, is_empty, is_zero, all_if, look}
 use Rattle.seize_machine.specs.Machine.History.{Timed, at_size}
 use Rattle.seize_machine.specs.Machine.Rows.{up_to_detach, up_to_leave}
 use Rattle.seize_machine.specs.declared.machine.event.Job.TheVariants.{Retire, Leave, Refresh}
@@ -163,6 +163,43 @@ begun_alone = Take 0 ∷ Begin 0 (Retire 7) ∷ []
 
 abbrev pub handed_alone : List Event
 handed_alone = begun_alone ++ Hand 0 [] ∷ []
+
+-- Wrong ends and takes
+
+-- **Ended at any time.** A slot ends with a batch though no other slot is in use.
+abbrev pub ended_at_any_time : Transition
+ended_at_any_time = next_by (record scheme { may_end = λ others batch rest. true })
+
+-- At size 2 the only slot retires 7 and ends. No slot is in use, and 7 is not reclaimed.
+abbrev pub left_by_the_last : List Event
+left_by_the_last = Take 0 ∷ Begin 0 (Retire 7) ∷ Put 0 ∷ Return 0 ∷ Give 0 ∷ []
+
+-- **Ended by its batch.** The last slot in use ends where its own batch is empty, whatever is left.
+abbrev pub ended_by_its_batch : Transition
+ended_by_its_batch = next_by (record scheme { may_end = λ others batch rest. others || is_empty batch })
+
+-- At size 2 slot 0 retires 7 and ends beside slot 1, which ends too.
+abbrev pub left_for_the_last : List Event
+left_for_the_last = Take 0 ∷ Take 1 ∷ Begin 0 (Retire 7) ∷ Put 0 ∷ Return 0 ∷ Give 0 ∷ Give 1 ∷ []
+
+-- **Taken without the rest.** A slot that takes a number has an empty batch, and what was left is nowhere.
+abbrev pub taken_without_the_rest : Transition
+taken_without_the_rest = next_by (record scheme { taken = λ size slots rest. taken_slot size slots [] })
+
+-- At size 2 slot 0 retires 7 and ends beside slot 1, and its number is taken again.
+abbrev pub left_and_taken : List Event
+left_and_taken = Take 0 ∷ Take 1 ∷ Begin 0 (Retire 7) ∷ Put 0 ∷ Return 0 ∷ Give 0 ∷ Take 0 ∷ []
+
+-- **Taken with no note.** The note of a call that begins with a take is 0.
+abbrev pub taken_with_no_note : Transition
+taken_with_no_note = next_by (record scheme { taken = λ size slots rest. taken_slot size 0 rest })
+
+-- Slot 0 retires 7 at size 2 while slot 1 is active, and ends. Its number is taken again at size 1 and 7 is handed, and slot 1 has not
+-- parted.
+abbrev pub taken_at_a_smaller_size : List Timed
+taken_at_a_smaller_size =
+    at_size 2 (Take 0 ∷ Take 1 ∷ Enter 1 ∷ Begin 0 (Retire 7) ∷ Put 0 ∷ Return 0 ∷ Give 0 ∷ [])
+    ++ at_size 1 (Take 0 ∷ Detach 0 ∷ AddCount 0 ∷ Hand 0 [] ∷ [])
 
 -- A wrong insertion, a wrong link, a wrong entry, a wrong record
 

@@ -5,7 +5,7 @@ use Rattle.seize_machine.specs.Machine.State.{State, slot_at, link_at, has}
 use Rattle.seize_machine.specs.Machine.Event.{Event, Take, Give, Enter, Begin, Detach, Insert, AddCount, SwapOut, SubCount, Hand, ReadLink, ExchangeLink, event_slot}
 use Rattle.seize_machine.specs.Machine.Next.{of_call, walking_at, new_link}
 use Rattle.seize_machine.specs.Machine.Laws.{added_batch}
-use Rattle.seize_machine.specs.declared.machine.event.Job.TheVariants.{Retire}
+use Rattle.seize_machine.specs.declared.machine.event.Job.TheVariants.{Retire, Gather}
 use Rattle.seize_machine.specs.declared.machine.event.Try.TheVariants.{Won}
 
 -- the record of slot k, and whether the slot is active
@@ -22,6 +22,13 @@ abbrev pub changes_used : Event → Bool
 changes_used (Take s) = true
 changes_used (Give s) = true
 changes_used _ = false
+
+-- which numbers are in use, and the rest
+abbrev pub changes_numbers : Event → Bool
+changes_numbers (Take s) = true
+changes_numbers (Give s) = true
+changes_numbers (Begin s Gather) = true
+changes_numbers _ = false
 
 -- the head of slot m
 abbrev pub changes_head_of : ℕ → Event → Bool

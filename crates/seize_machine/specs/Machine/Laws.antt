@@ -1,10 +1,10 @@
 -- The laws of the machine, each of an opening state and the moments of a legal list of events that began there. Each beginning
 -- of a legal list is a legal list, so what a law says of the end of a list, it says before every event.
-use Rattle.std.specs.Prelude.{◌≡◌, ℕ, ◌<◌, ◌≤◌, ◌↔◌, ◌⊎◌, Bool, true, false, not, ◌&&◌, ◌||◌, ◌==◌, nat_le, max, List, [], ◌∷◌, ◌++◌, length, slice_get, Option, Some, None, is_some}
+use Rattle.std.specs.Prelude.{◌≡◌, ℕ, ◌*◌, ◌<◌, ◌≤◌, ◌↔◌, ◌⊎◌, Bool, true, false, not, ◌&&◌, ◌||◌, ◌==◌, nat_le, max, List, [], ◌∷◌, ◌++◌, length, slice_get, Option, Some, None, is_some}
 use Rattle.std.specs.List.{Contains, list_all, flat_map, count_by, take_while}
 use Rattle.seize_machine.specs.Machine.State.{State, Progress, Head, Inactive, Active, Append, Look, Try, Add, Rest, slot_at, head_at, batch_at, is_active, waiting_at, linked_values, are_distinct, opening}
-use Rattle.seize_machine.specs.Machine.Event.{Event, Begin, Put, Insert, AddCount, Return, event_slot}
-use Rattle.seize_machine.specs.Machine.Next.{Transition, next, same_list}
+use Rattle.seize_machine.specs.Machine.Event.{Event, Take, Begin, Put, Insert, AddCount, Return, event_slot}
+use Rattle.seize_machine.specs.Machine.Next.{Transition, next, is_empty, same_list}
 use Rattle.seize_machine.specs.Machine.History.{Timed, Moment, history, answers_of, end_of, are_legal, Legal, handed, WasNamed, Retired, Reclaimed, Found, IsActiveAt, HasParted}
 use Rattle.seize_machine.specs.declared.machine.event.Answer.{Answer}
 use Rattle.seize_machine.specs.declared.machine.event.Try.TheVariants.{Lost}
@@ -19,8 +19,8 @@ After st ms =
     (v c : ℕ) → Reclaimed ms v c
     → (q : ℕ) × (q < c) × Retired ms v q × ((r : ℕ) → Retired ms v r → r ≡ q) × ((s : ℕ) → IsActiveAt ms s q → HasParted ms s q c)
 
--- **Quiet.** Where no call is under way and no slot is active, each retired value is reclaimed or stands in a slot's batch,
--- which is shorter than the bound at each size that no retirement's size was above.
+-- **Quiet.** Where no call is under way and no slot is active, each retired value is reclaimed or stands in a slot's batch or in the
+-- rest, which is below its bound at each size that the size of no retirement was above, and of no take where the rest had a value.
 abbrev pub is_quiet : State → Bool
 is_quiet st = list_all (λ slot. not (is_some slot.call)) st.slots && list_all (λ head. not (is_active head)) st.heads
 
@@ -28,22 +28,34 @@ is_quiet st = list_all (λ slot. not (is_some slot.call)) st.slots && list_all (
 abbrev pub bound : ℕ → State → ℕ
 bound size st = max (max 1 size) (length st.slots)
 
-abbrev pub is_put : Event → Bool
-is_put (Put s) = true
-is_put _ = false
+-- the events that put values into a batch, which may then be full by their size: a take does so where the rest has a value
+abbrev pub fills : State → Event → Bool
+fills st (Put s) = true
+fills st (Take s) = not (is_empty st.rest)
+fills st _ = false
 
--- each event that retires a value had at most this size
-abbrev pub PutsWithin : ℕ → List Moment → Type 0
-PutsWithin size ms = list_all (λ m. not (is_put m.timed.event) || nat_le m.timed.size size) ms ≡ true
+-- each of them had at most this size
+abbrev pub FillsWithin : ℕ → List Moment → Type 0
+FillsWithin size ms = list_all (λ m. not (fills m.before m.timed.event) || nat_le m.timed.size size) ms ≡ true
 
 abbrev pub IsBatched : State → ℕ → List Moment → Type 0
 IsBatched st v ms =
-    (s : ℕ) × Contains (slot_at st s).batch v × ((size : ℕ) → PutsWithin size ms → length (slot_at st s).batch < bound size st)
+    (s : ℕ) × Contains (slot_at st s).batch v × ((size : ℕ) → FillsWithin size ms → length (slot_at st s).batch < bound size st)
+
+abbrev pub IsRested : State → ℕ → List Moment → Type 0
+IsRested st v ms = Contains st.rest v × ((size : ℕ) → FillsWithin size ms → length st.rest < bound size st * length st.slots)
 
 abbrev pub Quiet : State → List Moment → Type 0
 Quiet st ms =
     is_quiet (end_of st ms) ≡ true → (v q : ℕ) → Retired ms v q
-    → ((c : ℕ) × Reclaimed ms v c) ⊎ IsBatched (end_of st ms) v ms
+    → ((c : ℕ) × Reclaimed ms v c) ⊎ IsBatched (end_of st ms) v ms ⊎ IsRested (end_of st ms) v ms
+
+-- **Unused.** Where no call is under way and no slot is in use, each retired value is reclaimed.
+abbrev pub is_unused : State → Bool
+is_unused st = list_all (λ slot. not slot.used && not (is_some slot.call)) st.slots
+
+abbrev pub Unused : State → List Moment → Type 0
+Unused st ms = is_unused (end_of st ms) ≡ true → (v q : ℕ) → Retired ms v q → (c : ℕ) × Reclaimed ms v c
 
 -- **Protection.** A value that slot s found in a link, and that was reclaimed, was retired in between, and s left or
 -- refreshed in between.
@@ -53,8 +65,8 @@ Protection st ms =
     → ((q : ℕ) × (e < q) × (q < c) × Retired ms v q) × HasParted ms s e c
 
 -- **Whereabouts.** Each value that was named is in exactly one place, and no other value is in any. Until it is retired, it is in a
--- link, out of a link, or with a call that is to retire it. From then on it is in a slot's batch, in a retired batch, given up to a call
--- that is to hand it to its reclaimer, or reclaimed.
+-- link, out of a link, or with a call that is to retire it. From then on it is in a slot's batch, in the rest, in a retired batch, given
+-- up to a call that is to hand it to its reclaimer, or reclaimed.
 abbrev pub to_retire : Option Progress → List ℕ
 to_retire None = []
 to_retire (Some call) = elim call.place [ Append v ↦ v ∷ call.queue | _ ↦ call.queue ]
@@ -69,7 +81,7 @@ given_up (Some call) = elim call.place [ Rest given walk ↦ given | _ ↦ [] ]
 abbrev pub from_retirement : State → List ℕ
 from_retirement st =
     flat_map (λ slot. slot.batch) st.slots ++ flat_map (λ batch. batch.values) st.batches
-    ++ flat_map (λ slot. given_up slot.call) st.slots ++ st.gone
+    ++ flat_map (λ slot. given_up slot.call) st.slots ++ st.gone ++ st.rest
 
 abbrev pub places : State → List ℕ
 places st = before_retirement st ++ from_retirement st
@@ -136,6 +148,7 @@ UnderGuard st ms =
 -- during the call.
 abbrev pub begins : ℕ → Event → Bool
 begins s (Begin i job) = i == s
+begins s (Take i) = i == s
 begins s _ = false
 
 abbrev pub returns : ℕ → Event → Bool

@@ -1,11 +1,11 @@
 -- What each event does: `next`, the one transition function, which is total and computes.
 use Rattle.std.specs.Prelude.{ℕ, ◌+◌, ℤ, pos, negsuc, ◌+ℤ◌, ◌-ℤ◌, Bool, true, false, not, ◌&&◌, ◌||◌, ◌==◌, if◌then◌else◌, nat_lt, nat_le, max, List, [], ◌∷◌, ◌++◌, length, slice_set, Option, Some, None, option_to_list, unwrap_or}
-use Rattle.std.specs.List.{list_all, position_or_len, filter}
+use Rattle.std.specs.List.{list_all, list_any, position_or_len, filter}
 use Rattle.seize_table.specs.Place.{all_numbers}
-use Rattle.seize_machine.specs.Machine.State.{State, Slot, Progress, Head, Inactive, Active, Place, Append, Mark, Look, Try, Add, Out, Rest, slot_at, head_at, batch_at, link_at, is_active, waiting_at, is_idle, has, are_distinct}
+use Rattle.seize_machine.specs.Machine.State.{no_slot, State, Slot, Progress, Head, Inactive, Active, Place, Append, Mark, Look, Try, Add, Out, Rest, slot_at, head_at, batch_at, link_at, is_active, waiting_at, is_idle, has, are_distinct}
 use Rattle.seize_machine.specs.Machine.Event.{Event, Take, Give, Enter, Begin, Put, ReadHead, Detach, Insert, AddCount, SwapOut, SubCount, Hand, Return, ReadLink, ExchangeLink}
 use Rattle.seize_machine.specs.declared.machine.event.Job.{Job}
-use Rattle.seize_machine.specs.declared.machine.event.Job.TheVariants.{Retire, Flush, Leave, Refresh}
+use Rattle.seize_machine.specs.declared.machine.event.Job.TheVariants.{Retire, Flush, Leave, Refresh, Gather}
 use Rattle.seize_machine.specs.declared.machine.event.Try.TheVariants.{Won, Lost}
 use Rattle.seize_machine.specs.declared.machine.event.Exchange.{Exchange}
 use Rattle.seize_machine.specs.declared.machine.event.Exchange.TheVariants.{Swap, Compare}
@@ -27,6 +27,10 @@ pub record Scheme : Type 0 where
   pub may_retire : State → ℕ → Bool
   -- where the retirement of the value begins
   pub retiring_at : ℕ → Place
+  -- what a slot is that takes a number: the size, how many slots there are then, and the rest
+  pub taken : (size slots : ℕ) → List ℕ → Slot
+  -- whether a slot may end: whether another one is in use, its batch, and the rest
+  pub may_end : Bool → List ℕ → List ℕ → Bool
   -- the slot becomes active
   pub entered : State → ℕ → State
   -- where there are so many slots and the batch is as long as the size: the slot's batch, and where its call goes on
@@ -80,27 +84,53 @@ abbrev pub own : State → ℕ → Answer → Option Slot → Outcome
 own st s answer None = None
 own st s answer (Some slot) = Some (slot_set st s slot, answer)
 
--- Take: the least number that is not in use; a new slot is inactive
+-- Take: the least number that is not in use; a new slot is inactive. Whoever takes a number has the rest as its batch
 
 abbrev pub first_free : List Slot → ℕ
 first_free slots = position_or_len (λ slot. not slot.used) slots
 
-abbrev pub after_take : State → ℕ → State
-after_take st s =
+abbrev pub after_take : Scheme → ℕ → State → ℕ → State
+after_take scheme size st s =
     if s == length st.slots
-    then record st { slots = st.slots ++ record { used = true; batch = []; call = None } ∷ []; heads = st.heads ++ Inactive ∷ [] }
-    else slot_set st s (record (slot_at st s) { used = true })
+    then record st {
+      slots = st.slots ++ scheme.taken size (length st.slots + 1) st.rest ∷ [];
+      heads = st.heads ++ Inactive ∷ [];
+      rest = [];
+    }
+    else record st { slots = slice_set st.slots s (scheme.taken size (length st.slots) st.rest); rest = [] }
 
 -- Give, Enter: a slot in use, with no call under way and not active
 
 abbrev pub is_outside : State → ℕ → Bool
 is_outside st s = is_idle (slot_at st s) && not (is_active (head_at st s))
 
+-- Give: the slot's batch joins the rest, behind what is there
+
+-- another slot is in use
+abbrev pub has_others : State → ℕ → Bool
+has_others st s = list_any (λ slot. slot.used) (slice_set st.slots s no_slot)
+
+abbrev pub after_give : State → ℕ → State
+after_give st s = record st { slots = slice_set st.slots s no_slot; rest = st.rest ++ (slot_at st s).batch }
+
 -- Begin
 
 abbrev pub is_empty : List ℕ → Bool
 is_empty [] = true
 is_empty (x ∷ xs) = false
+
+-- a slot that gathered this batch: where there are so many slots, the heads are read
+abbrev pub gathered_slot : ℕ → List ℕ → Slot
+gathered_slot slots batch = record { used = true; batch = batch; call = Some (record { place = Mark 0 slots []; queue = [] }) }
+
+-- the rest comes before the slot's batch
+abbrev pub after_gather : State → ℕ → State
+after_gather st s =
+    record st { slots = slice_set st.slots s (gathered_slot (length st.slots) (st.rest ++ (slot_at st s).batch)); rest = [] }
+
+-- no other slot is in use, and there is something to gather
+abbrev pub can_gather : State → ℕ → Bool
+can_gather st s = is_outside st s && not (has_others st s) && not (is_empty (slot_at st s).batch && is_empty st.rest)
 
 abbrev pub begun : State → ℕ → Place → State
 begun st s place = slot_set st s (begun_at (slot_at st s) place)
@@ -130,6 +160,7 @@ begin scheme st s (Retire v) =
 begin scheme st s Flush = begin_active st s (flushing_at (length st.slots) (slot_at st s).batch)
 begin scheme st s Leave = begin_active st s (Out false)
 begin scheme st s Refresh = begin_active st s (Out true)
+begin scheme st s Gather = if can_gather st s then Some (after_gather st s, Done) else None
 
 -- Put: v is retired into the batch of a slot, where there are so many slots
 
@@ -383,8 +414,10 @@ exchange_link scheme st s l exchange =
 -- The table.
 
 abbrev pub next_by : Scheme → Transition
-next_by scheme size st (Take s) = if (s == first_free st.slots) && nat_lt s all_numbers then Some (after_take st s, Done) else None
-next_by scheme size st (Give s) = if is_outside st s then Some (slot_set st s (record (slot_at st s) { used = false }), Done) else None
+next_by scheme size st (Take s) =
+    if (s == first_free st.slots) && nat_lt s all_numbers then Some (after_take scheme size st s, Done) else None
+next_by scheme size st (Give s) =
+    if is_outside st s && scheme.may_end (has_others st s) (slot_at st s).batch st.rest then Some (after_give st s, Done) else None
 next_by scheme size st (Enter s) = if is_outside st s then Some (scheme.entered st s, Done) else None
 next_by scheme size st (Begin s job) = begin scheme st s job
 next_by scheme size st (Put s) = own st s Done (slot_put scheme size (length st.slots) (slot_at st s))
@@ -406,6 +439,18 @@ next_by scheme size st (ExchangeLink s l exchange) = exchange_link scheme st s l
 -- a full batch stays, and the call reads the heads from the first on: the note is the number of slots at this retirement
 abbrev pub marking : ℕ → List ℕ → List ℕ × Place
 marking slots batch = (batch, Mark 0 slots [])
+
+-- the rest becomes the batch, and a full one is attempted
+abbrev pub taken_call : (size slots : ℕ) → List ℕ → Option Progress
+taken_call size slots rest =
+    if nat_le (max 1 size) (length rest) then Some (record { place = Mark 0 slots []; queue = [] }) else None
+
+abbrev pub taken_slot : (size slots : ℕ) → List ℕ → Slot
+taken_slot size slots rest = record { used = true; batch = rest; call = taken_call size slots rest }
+
+-- while another slot is in use, or there is nothing to leave
+abbrev pub ends_now : Bool → List ℕ → List ℕ → Bool
+ends_now others batch rest = others || (is_empty batch && is_empty rest)
 
 -- the next number, or from the note on also a later one
 abbrev pub is_due : (next note n : ℕ) → Bool
@@ -449,6 +494,8 @@ scheme =
       -- it was never named, or it was taken out of a link and no call began to retire it
       may_retire = λ st v. not (has v st.named) || has v st.loose;
       retiring_at = λ v. Append v;
+      taken = taken_slot;
+      may_end = ends_now;
       entered = λ st s. set_head st s (Active []);
       filled = marking;
       may_read = is_due;

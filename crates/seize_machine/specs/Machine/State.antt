@@ -47,6 +47,8 @@ pub record State : Type 0 where
   pub heads : List Head
   pub batches : List Batch
   pub links : List (Option ℕ)
+  -- the rest: the values of batches of slots that ended, in the order in which these ended
+  pub rest : List ℕ
   -- values taken out of a link that no call has begun to retire
   pub loose : List ℕ
   -- values reclaimed, in order
@@ -105,6 +107,7 @@ opening slots links =
       heads = replicate slots Inactive;
       batches = [];
       links = links;
+      rest = [];
       loose = [];
       gone = [];
       named = linked_values links;

@@ -3,7 +3,7 @@ ghost use Rattle.std.specs.Prelude.{◌≡◌, ◌<◌, ◌≤◌, ◌==◌, ◌
 ghost use Rattle.std.specs.List.{filter, list_all};
 ghost use Rattle.seize_machine.specs.Machine.State as state;
 ghost use Rattle.seize_machine.specs.Machine.Event as event;
-ghost use Rattle.seize_machine.specs.Machine.Next.{scheme, next, first_free, is_outside, with_named, is_none_or_fresh, swapped};
+ghost use Rattle.seize_machine.specs.Machine.Next.{scheme, next, has_others, is_empty, first_free, is_outside, retiring, with_named, is_none_or_fresh, swapped};
 ghost use Rattle.seize_machine.specs.Machine.Laws.{is_quiet};
 ghost use Rattle.seize_machine.specs.Machine.Code.{HasOutcome, CountsFit, head_view, event_of};
 
@@ -15,6 +15,7 @@ use seize_table::thread_id::MAX_INDEX;
 use std::alloc::{AllocError, Global};
 use std::collections::VecDeque;
 use std::marker::Model;
+use std::mem;
 
 /// How many slot numbers there are.
 const NUMBERS: usize = MAX_INDEX + 1;
@@ -26,6 +27,7 @@ pub(super) struct Configuration {
     heads: Vec<Head>,
     batches: Vec<Batch>,
     links: Vec<Option<u64>>,
+    rest: VecDeque<u64>,
     loose: Vec<u64>,
     gone: Vec<u64>,
     named: Vec<u64>,
@@ -39,6 +41,7 @@ impl Model for Configuration {
       heads = c.heads.items;
       batches = c.batches.items;
       links = c.links.items;
+      rest = c.rest.items;
       loose = c.loose.items;
       gone = c.gone.items;
       named = c.named.items;
@@ -112,6 +115,7 @@ impl Configuration {
             heads: Vec::new(alloc),
             batches: Vec::new(alloc),
             links,
+            rest: VecDeque::new(alloc),
             loose: Vec::new(alloc),
             gone: Vec::new(alloc),
             named: Vec::new(alloc),
@@ -151,33 +155,79 @@ impl Configuration {
     }
 
     /// The number is taken.
-    fn take(&mut self, s: usize) -> Result<Answer, AllocError>
-        ensures step { IfOk result (λ answer. HasOutcome (next 0 self.old (event.Take s)) self.old self.new answer) }
+    fn take(&mut self, size: usize, s: usize) -> Result<Answer, AllocError>
+        ensures step { IfOk result (λ answer. HasOutcome (next size self.old (event.Take s)) self.old self.new answer) }
         ensures err { OnErr result (self.new ≡ self.old) }
     {
         if s != first_free(&self.slots) || s >= NUMBERS {
             return Ok(Answer::Illegal);
         }
-        if s != self.slots.len() {
-            self.slots[s].set_used(true);
+        let made = self.slots.len();
+        if s != made {
+            let rest = self.take_rest();
+            self.slots[s] = Slot::taking(self.alloc, size, made, rest);
             return Ok(Answer::Done);
         }
         self.slots.reserve(1)?;
         self.heads.reserve(1)?;
-        self.slots.push_reserved(Slot::new(self.alloc));
+        let rest = mem::replace(&mut self.rest, VecDeque::new(self.alloc));
+        self.slots
+            .push_reserved(Slot::taking(self.alloc, size, made + 1, rest));
         self.heads.push_reserved(Head::inactive());
         Ok(Answer::Done)
     }
 
-    /// The number is given back.
-    fn give(&mut self, s: usize) -> Answer
-        ensures { HasOutcome (next 0 self.old (event.Give s)) self.old self.new result }
+    /// The rest, which is empty then.
+    fn take_rest(&mut self) -> VecDeque<u64>
+        ensures { (result.items ≡ self.old.rest) × (self.new ≡ record self.old { rest = [] }) }
     {
-        if !self.is_outside(s) {
-            return Answer::Illegal;
+        mem::replace(&mut self.rest, VecDeque::new(self.alloc))
+    }
+
+    /// Whether another slot than this one is in use.
+    fn has_others(&self, s: usize) -> bool
+        requires { s < length self.now.slots }
+        ensures { result ≡ has_others self.now s }
+    {
+        for (n, slot) in self.slots.iter().enumerate() {
+            if n != s && slot.is_used() {
+                return true;
+            }
         }
-        self.slots[s].set_used(false);
-        Answer::Done
+        false
+    }
+
+    /// Whether the slot has no batch and the rest is empty.
+    fn has_nothing(&self, s: usize) -> bool
+        requires { s < length self.now.slots }
+        ensures { result ≡ (is_empty (state.slot_at self.now s).batch && is_empty self.now.rest) }
+    {
+        !self.slots[s].has_batch() && self.rest.is_empty()
+    }
+
+    /// The number is given back.
+    fn give(&mut self, s: usize) -> Result<Answer, AllocError>
+        ensures step { IfOk result (λ answer. HasOutcome (next 0 self.old (event.Give s)) self.old self.new answer) }
+        ensures err { OnErr result (self.new ≡ self.old) }
+    {
+        if !self.is_outside(s) || !(self.has_others(s) || self.has_nothing(s)) {
+            return Ok(Answer::Illegal);
+        }
+        self.slots[s].free(&mut self.rest)?;
+        Ok(Answer::Done)
+    }
+
+    fn begin_gather(&mut self, s: usize) -> Result<Answer, AllocError>
+        requires { IsTrue (state.is_idle (state.slot_at self.old s)) }
+        ensures step { IfOk result (λ answer. HasOutcome (next 0 self.old (event.Begin s Job.Gather)) self.old self.new answer) }
+        ensures err { OnErr result (self.new ≡ self.old) }
+    {
+        if !self.is_outside(s) || self.has_others(s) || self.has_nothing(s) {
+            return Ok(Answer::Illegal);
+        }
+        let made = self.slots.len();
+        self.slots[s].gather(self.alloc, made, &mut self.rest)?;
+        Ok(Answer::Done)
     }
 
     /// The slot becomes active.
@@ -208,7 +258,10 @@ impl Configuration {
         ensures step { IfOk result (λ answer. HasOutcome (next 0 self.old (event.Begin s job)) self.old self.new answer) }
         ensures err { OnErr result (self.new ≡ self.old) }
     {
-        if s >= self.slots.len() || !self.slots[s].is_idle() {
+        if s >= self.slots.len() {
+            return Ok(Answer::Illegal);
+        }
+        if !self.slots[s].is_idle() {
             return Ok(Answer::Illegal);
         }
         match job {
@@ -216,6 +269,7 @@ impl Configuration {
             Job::Flush => Ok(self.begin_flush(s)),
             Job::Leave => Ok(self.begin_out(s, false)),
             Job::Refresh => Ok(self.begin_out(s, true)),
+            Job::Gather => self.begin_gather(s),
         }
     }
 
@@ -227,10 +281,19 @@ impl Configuration {
         if self.named.contains(&value) && !self.loose.contains(&value) {
             return Ok(Answer::Illegal);
         }
-        self.name(value)?;
-        remove(&mut self.loose, value);
+        self.leave_link(value)?;
         self.slots[s].begin(self.alloc, Place::Append(value));
         Ok(Answer::Done)
+    }
+
+    /// The value is about to be retired: it is named, and no longer between a link and its retirement.
+    fn leave_link(&mut self, value: u64) -> Result<(), AllocError>
+        ensures ok { OnOk result (self.new ≡ retiring self.old value) }
+        ensures err { OnErr result (self.new ≡ self.old) }
+    {
+        self.name(value)?;
+        remove(&mut self.loose, value);
+        Ok(())
     }
 
     /// The value is one that was named.
@@ -323,13 +386,19 @@ impl Configuration {
         ensures step { IfOk result (λ answer. HasOutcome (next 0 self.old (event.Insert s m Try.Won)) self.old self.new answer) }
         ensures err { OnErr result (self.new ≡ self.old) }
     {
-        if s >= self.slots.len() || m >= self.heads.len() {
+        if s >= self.slots.len() {
+            return Ok(Answer::Illegal);
+        }
+        if m >= self.heads.len() {
             return Ok(Answer::Illegal);
         }
         let Some((batch, slot)) = self.slots[s].trying() else {
             return Ok(Answer::Illegal);
         };
-        if m != slot || !self.heads[m].insert(batch)? {
+        if m != slot {
+            return Ok(Answer::Illegal);
+        }
+        if !self.heads[m].insert(batch)? {
             return Ok(Answer::Illegal);
         }
         self.slots[s].won();
@@ -343,11 +412,16 @@ impl Configuration {
         if s >= self.slots.len() {
             return Answer::Illegal;
         }
-        let legal = match self.heads.get(m) {
-            None => self.slots[s].lost(m, &Head::inactive()),
-            Some(head) => self.slots[s].lost(m, head),
+        let inactive = Head::inactive();
+        let head = match self.heads.get(m) {
+            None => &inactive,
+            Some(head) => head,
         };
-        if legal { Answer::Done } else { Answer::Illegal }
+        if !self.slots[s].can_lose(m, head) {
+            return Answer::Illegal;
+        }
+        self.slots[s].lost(m, head);
+        Answer::Done
     }
 
     /// The slot's list is swapped out.
@@ -509,8 +583,8 @@ impl Configuration {
         ensures err { OnErr result (self.new ≡ self.old) }
     {
         match event {
-            Event::Take(s) => self.take(*s),
-            Event::Give(s) => Ok(self.give(*s)),
+            Event::Take(s) => self.take(size, *s),
+            Event::Give(s) => self.give(*s),
             Event::Enter(s) => Ok(self.enter(*s)),
             Event::Begin(s, job) => self.begin(*s, *job),
             Event::Put(s) => self.put(size, *s),

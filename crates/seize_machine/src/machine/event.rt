@@ -13,6 +13,8 @@ pub enum Job {
     Leave,
     /// Leaves and enters in one step.
     Refresh,
+    /// Attempts the rest and the slot's batch, as no other slot is in use.
+    Gather,
 }
 
 /// How an insertion ended.

@@ -1,7 +1,7 @@
 //! A slot: its batch and its call under way.
-ghost use Rattle.std.specs.Prelude.{◌≡◌, IfOk, OnOk, OnErr, [], true, false, not, is_some, unwrap_or};
+ghost use Rattle.std.specs.Prelude.{◌≡◌, ◌++◌, IfOk, OnOk, OnErr, [], true, false, not, is_some, unwrap_or};
 ghost use Rattle.seize_machine.specs.Machine.State as state;
-ghost use Rattle.seize_machine.specs.Machine.Next.{scheme, is_empty, look, of_call, moved, begun_at, slot_put, slot_mark, looking_at, looked_on, can_detach, after_detach, detached_on, trying_at, won_on, slot_lost, can_lose_at, lost_on, adding_at, leaving_at, walking_at, walked_on, handing_at, slot_handed, slot_return};
+ghost use Rattle.seize_machine.specs.Machine.Next.{scheme, taken_slot, gathered_slot, is_empty, look, of_call, moved, begun_at, slot_put, slot_mark, looking_at, looked_on, can_detach, after_detach, detached_on, trying_at, won_on, slot_lost, can_lose_at, lost_on, adding_at, leaving_at, walking_at, walked_on, handing_at, slot_handed, slot_return};
 ghost use Rattle.seize_machine.specs.Machine.Code.{slot_view, place_view, head_view, CanWin, CanWinAt, DoesSlot};
 
 use super::head::Head;
@@ -200,27 +200,56 @@ impl Model for Slot {
 }
 
 impl Slot {
-    /// A slot that is made as its number is taken.
-    pub(super) fn new(alloc: Global) -> Slot
-        ensures { result ≡ record { used = true; batch = []; call = None } }
+    /// A slot whose number is taken, where there are so many slots then: it has the rest as its batch, and attempts that where it is full.
+    pub(super) fn taking(alloc: Global, size: usize, slots: usize, rest: VecDeque<u64>) -> Slot
+        ensures { result ≡ taken_slot size slots rest.items }
     {
-        Slot {
+        let full = rest.len() >= size.max(1);
+        let mut slot = Slot {
             used: true,
-            batch: VecDeque::new(alloc),
+            batch: rest,
             call: None,
+        };
+        if full {
+            slot.begin(alloc, Place::marking(alloc, slots));
         }
+        slot
+    }
+
+    /// Its batch joins the rest, behind what is there, and its number is free.
+    pub(super) fn free(&mut self, rest: &mut VecDeque<u64>) -> Result<(), AllocError>
+        ensures ok { OnOk result (self.new ≡ state.no_slot) }
+        ensures rest { OnOk result (rest.new.items ≡ rest.old.items ++ self.old.batch) }
+        ensures err { OnErr result ((self.new ≡ self.old) × (rest.new.items ≡ rest.old.items)) }
+    {
+        rest.append(&mut self.batch)?;
+        self.used = false;
+        self.call = None;
+        Ok(())
+    }
+
+    /// The rest comes before its batch, and the heads are read, where there are so many slots. It is in use.
+    pub(super) fn gather(
+        &mut self,
+        alloc: Global,
+        slots: usize,
+        rest: &mut VecDeque<u64>,
+    ) -> Result<(), AllocError>
+        requires { self.old.used ≡ true }
+        ensures ok { OnOk result (self.new ≡ gathered_slot slots (rest.old.items ++ self.old.batch)) }
+        ensures rest { OnOk result (rest.new.items ≡ []) }
+        ensures err { OnErr result ((self.new ≡ self.old) × (rest.new.items ≡ rest.old.items)) }
+    {
+        rest.append(&mut self.batch)?;
+        self.batch = mem::replace(rest, VecDeque::new(alloc));
+        self.begin(alloc, Place::marking(alloc, slots));
+        Ok(())
     }
 
     pub(super) fn is_used(&self) -> bool
         ensures { result ≡ self.now.used }
     {
         self.used
-    }
-
-    pub(super) fn set_used(&mut self, used: bool)
-        ensures { self.new ≡ record self.old { used = used } }
-    {
-        self.used = used;
     }
 
     pub(super) fn has_call(&self) -> bool
@@ -412,7 +441,7 @@ impl Slot {
         true
     }
 
-    fn can_lose(&self, n: usize, head: &Head) -> bool
+    pub(super) fn can_lose(&self, n: usize, head: &Head) -> bool
         ensures { result ≡ unwrap_or (of_call (can_lose_at scheme n head.now) self.now.call) false }
     {
         match &self.call {

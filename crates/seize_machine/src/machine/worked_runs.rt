@@ -4,10 +4,10 @@ ghost use Rattle.std.specs.Prelude.{◌≡◌, Some, [], ◌∷◌, true};
 ghost use Rattle.seize_machine.specs.Machine.State.{opening, head_at, is_active};
 ghost use Rattle.seize_machine.specs.Machine.Event.{Give};
 ghost use Rattle.seize_machine.specs.Machine.History.{at_size, end_of, answers_of};
-ghost use Rattle.seize_machine.specs.Machine.Laws.{AtMostOnce, After, Quiet, Protection, Whereabouts, Gone, Holders, NoLaterHolders, UnderGuard, Tries, Breaks};
+ghost use Rattle.seize_machine.specs.Machine.Laws.{AtMostOnce, After, Quiet, Unused, Protection, Whereabouts, Gone, Holders, NoLaterHolders, UnderGuard, Tries, Breaks};
 ghost use Rattle.seize_machine.specs.Machine.Rows.{history_of, walker_first, walker_first_answers, left_before_insertion, left_before_insertion_answers, back_before_insertion, back_before_insertion_answers, two_insertions, two_insertions_answers, added_beside_active, entered_before_add, entered_before_add_answers, is_illegal_throughout};
 ghost use Rattle.seize_machine.specs.Machine.Schedules.{retire_first, retire_first_answers, left_before_put, left_before_put_answers, left_before_attempt, left_before_attempt_answers, second_finishes_first, second_finishes_first_answers, left_before_both, left_before_both_answers};
-ghost use Rattle.seize_machine.specs.Machine.Counterexamples.{nothing_given_up, retired_alone, given_up_unless_active, given_up_below_zero, counted_down_early, given_up_and_kept, counted_alone, handed_twice, given_up_and_forgotten, skipped_and_counted, skipped_and_added, one_value_more, retired_at_a_smaller_size, rest_passed_over, retired_beside_two, number_passed_over, read_last_alone, read_other_alone, given_up_when_full, found_and_retired, fixed_note, made_before_put, retired_again, retired_twice, given_up_unretired, begun_alone, handed_alone, lost_at_any_time, lost_alone, left_in_the_link, found_after_its_retirement, taken_out, out_and_forgotten, another_stored, joined_at_entry, entered_after_add, left_after_add, kept_by_a_refresh, refreshed_after_add, recorded_in_front, handed_in_order};
+ghost use Rattle.seize_machine.specs.Machine.Counterexamples.{nothing_given_up, retired_alone, given_up_unless_active, given_up_below_zero, counted_down_early, given_up_and_kept, counted_alone, handed_twice, given_up_and_forgotten, skipped_and_counted, skipped_and_added, one_value_more, retired_at_a_smaller_size, rest_passed_over, retired_beside_two, number_passed_over, read_last_alone, read_other_alone, given_up_when_full, found_and_retired, fixed_note, made_before_put, retired_again, retired_twice, given_up_unretired, begun_alone, handed_alone, lost_at_any_time, lost_alone, left_in_the_link, found_after_its_retirement, taken_out, out_and_forgotten, another_stored, joined_at_entry, entered_after_add, left_after_add, kept_by_a_refresh, refreshed_after_add, ended_at_any_time, left_by_the_last, ended_by_its_batch, left_for_the_last, taken_without_the_rest, left_and_taken, taken_with_no_note, taken_at_a_smaller_size, recorded_in_front, handed_in_order};
 
 /// Worked runs at size 1, from the opening with no slot made: the answers to their events.
 ///
@@ -67,5 +67,9 @@ pub fn counterexamples()
     ensures joined_at_entry_breaks_no_later_holders { Breaks joined_at_entry [] (at_size 1 entered_after_add) NoLaterHolders }
     ensures joined_at_entry_walks { Breaks joined_at_entry [] (at_size 1 left_after_add) NoLaterHolders }
     ensures kept_by_a_refresh_breaks_no_later_holders { Breaks kept_by_a_refresh [] (at_size 1 refreshed_after_add) NoLaterHolders }
+    ensures ended_at_any_time_breaks_unused { Breaks ended_at_any_time [] (at_size 2 left_by_the_last) Unused }
+    ensures ended_by_its_batch_breaks_unused { Breaks ended_by_its_batch [] (at_size 2 left_for_the_last) Unused }
+    ensures taken_without_the_rest_breaks_whereabouts { Breaks taken_without_the_rest [] (at_size 2 left_and_taken) Whereabouts }
+    ensures taken_with_no_note_breaks_after { Breaks taken_with_no_note [] taken_at_a_smaller_size After }
     ensures recorded_in_front_breaks_gone { Breaks recorded_in_front [] (at_size 2 handed_in_order) Gone }
 {}

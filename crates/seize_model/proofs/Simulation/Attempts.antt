@@ -1,6 +1,6 @@
 -- An attempt as events: the reads of all heads, the detaching, the insertions and the add.
 use Rattle.std.proofs.Common.{◌≡◌, ℕ, ◌+◌, ◌<◌, ◌≤◌, pos, ◌+ℤ◌, Bool, true, false, ◌==◌, if◌then◌else◌, nat_lt, List, [], ◌∷◌, ◌++◌, length, map, set, Some, refl, sym, ◌∙◌, ap, subst, arith, append_assoc, append-nil}
-use Rattle.std.proofs.Math.Seq.{get_or-append_seam}
+use Rattle.std.proofs.Math.Seq.{get_or-append_seam, set-append_seam}
 use Rattle.std.proofs.lemmas.List.{length-append}
 use Rattle.seize_machine.specs.Machine.State.{State, Head, Inactive, Active, Batch, Place, Mark, Add, Rest, head_at, batch_at, is_active, no_batch}
 use Rattle.seize_machine.specs.Machine.Event.{ReadHead, Detach, Insert, AddCount}
@@ -10,7 +10,8 @@ use Rattle.seize_machine.specs.declared.machine.event.Answer.TheVariants.{Done, 
 use Rattle.seize_machine.proofs.Facts.{lt_true}
 use Rattle.seize_model.proofs.Simulation.Paths.{Path, and_then, same_state}
 use Rattle.seize_model.proofs.Simulation.Determinism.{only_mark, only_detach, only_look, only_insert, only_add}
-use Rattle.seize_model.proofs.Simulation.Events.{busy, if_yes, mark_step, detach_step, look_step, insert_step, add_step, with_batch, with_count, counted_place}
+use Rattle.seize_model.proofs.Simulation.Events.{busy, mark_step, detach_step, look_step, insert_step, add_step, with_batch, with_count, counted_place}
+use Rattle.seize_model.proofs.Cases.{if_yes}
 
 -- the numbers of the active heads, where the first of these heads has number n
 abbrev pub actives : ℕ → List Head → List ℕ
@@ -24,10 +25,6 @@ with_front b (Active waiting) = Active (b ∷ waiting)
 
 abbrev pub with_heads : State → List Head → State
 with_heads base heads = record base { heads = heads }
-
-pub set_seam : {X : Type 0} (pre : List X) (x y : X) (xs : List X) → set (pre ++ x ∷ xs) (length pre) y ≡ pre ++ y ∷ xs
-set_seam [] x y xs = refl
-set_seam (p ∷ pre) x y xs = ap (λ l. p ∷ l) (set_seam pre x y xs)
 
 read : (size : ℕ) (base : State) (s n note : ℕ) (batch marked queue : List ℕ) (pre hs : List Head) (head : Head) → n ≡ length pre → s < length base.slots → n < length base.slots
     → next size (busy (with_heads base (pre ++ head ∷ hs)) s batch (Mark n note marked) queue) (ReadHead s n)
@@ -116,7 +113,7 @@ inserts_on size base s b won n batch queue pre (Active w ∷ hs) e h =
     let later : List ℕ = actives (n + 1) hs in
     let is : head_at st n ≡ Active w = rw e (get_or-append_seam pre (Active w) hs Inactive) in
     let put_in : set (pre ++ Active w ∷ hs) n (Active (b ∷ w)) ≡ (pre ++ Active (b ∷ w) ∷ []) ++ hs =
-    rw e (set_seam pre (Active w) (Active (b ∷ w)) hs) ∙ sym (append_assoc pre (Active (b ∷ w) ∷ []) hs) in
+    rw e (set-append_seam pre (Active w) hs (Active (b ∷ w))) ∙ sym (append_assoc pre (Active (b ∷ w) ∷ []) hs) in
     let len : length (pre ++ Active (b ∷ w) ∷ []) ≡ length pre + 1 = length-append pre (Active (b ∷ w) ∷ []) in
     let total : won + 1 + length later ≡ won + length (n ∷ later) = omega arith in
     Path.goes _ (ReadHead s n) _ _ _
@@ -162,7 +159,7 @@ attempts_on size base s batch queue h all le =
     let adds : (batch_at (with_batch base batch) b).count +ℤ pos (0 + won) ≡ pos won = ap (λ (x : Batch). x.count +ℤ pos (0 + won)) own ∙ ap (λ (k : ℕ). pos 0 +ℤ pos k) total ∙ plus_none won in
     let ends : busy (with_count (with_heads (with_batch base batch) (map (with_front b) base.heads)) b (pos won)) s [] (counted_place (with_batch base batch) b (pos won) []) queue ≡ busy (with_waiting base batch) s [] (place_with_waiting base batch) queue
     = ap (λ (x : Batch). busy (record (with_heads (with_batch base batch) (map (with_front b) base.heads)) { batches = set (base.batches ++ fresh ∷ []) b (record { values = if won == 0 then [] else x.values; count = pos won }) }) s [] (Rest (if won == 0 then x.values else []) []) queue) own
-    ∙ ap (λ (l : List Batch). busy (record (with_heads (with_batch base batch) (map (with_front b) base.heads)) { batches = l }) s [] (place_with_waiting base batch) queue) (set_seam base.batches fresh (record { values = if won == 0 then [] else batch; count = pos won }) []) in
+    ∙ ap (λ (l : List Batch). busy (record (with_heads (with_batch base batch) (map (with_front b) base.heads)) { batches = l }) s [] (place_with_waiting base batch) queue) (set-append_seam base.batches fresh [] (record { values = if won == 0 then [] else batch; count = pos won })) in
     and_then size s _ _ _ marking
     (Path.goes _ (Detach s) _ _ _ (detach_step size base s (length base.slots) (length base.slots) batch (actives 0 base.heads) queue h (omega arith)) refl (refl, refl, refl)
     (only_detach size base s (length base.slots) (length base.slots) batch (actives 0 base.heads) queue h (omega arith))

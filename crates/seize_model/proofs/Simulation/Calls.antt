@@ -39,11 +39,11 @@ HeldFor of before call = Unit {0}
 -- where the values with a property have names, and those of the state and the call have it
 runs_where : {T R X : Type 0} (puts : R → T → List T) (weight : T → ℕ) (of : Naming T R X) (P : T × R → Type 0) → Lighter puts weight → Names puts of P → (st : waiting.ModelState T R) (before : machine.State) (call : Call T R) → HasLink st call
     → Holds T R P st → HoldsOwn P st call → HeldFor of before call → NearAt of [] st before → Run puts of call st before (step puts weight st call)
-runs_where puts weight of P lighter names st before Register link holds own for near = register_run puts weight of st before near
-runs_where puts weight of P lighter names st before EnterOwned link holds own for near = owned_run puts weight of st before near
+runs_where puts weight of P lighter names st before Register link holds own for near = register_run puts weight lighter of P names st before holds near
+runs_where puts weight of P lighter names st before EnterOwned link holds own for near = owned_run puts weight lighter of P names st before holds near
 runs_where puts weight of P lighter names st before (Enter s) link holds own for near = enter_run puts weight of st before s near
 runs_where puts weight of P lighter names st before (Leave s) link holds own for near = leave_run puts weight lighter of P names st before s holds near
-runs_where puts weight of P lighter names st before (End s) link holds own for near = end_run puts weight of st before s near
+runs_where puts weight of P lighter names st before (End s) link holds own for near = end_run puts weight lighter of P names st before s holds near
 runs_where puts weight of P lighter names st before (Refresh s) link holds own for near = refresh_run puts weight lighter of P names st before s holds near
 runs_where puts weight of P lighter names st before (Flush s) link holds own for near = flush_run puts weight lighter of P names st before s holds near
 runs_where puts weight of P lighter names st before (Retire s v r) link holds own for near = retire_run puts weight lighter of P names st before s v r holds own near
@@ -147,11 +147,11 @@ agrees_with {T} {R} puts weight of by lighter names st before call link held sho
 -- each list of events goes as the call
 lists_agree : {T R : Type 0} (puts : R → T → List T) (weight : T → ℕ) → Lighter puts weight → (of : ℕ → T) (by : ℕ → R) (st : waiting.ModelState T R) (before : machine.State) (call : Call T R) → HasLink st call → NearAt (with_reclaimers of by) [] st before
     → EachList puts of by call st before (step puts weight st call)
-lists_agree puts weight lighter of by st before Register link n = register_list puts weight of by st before n
-lists_agree puts weight lighter of by st before EnterOwned link n = owned_list puts weight of by st before n
+lists_agree puts weight lighter of by st before Register link n = register_list puts weight lighter of by st before n
+lists_agree puts weight lighter of by st before EnterOwned link n = owned_list puts weight lighter of by st before n
 lists_agree puts weight lighter of by st before (Enter s) link n = enter_list puts weight of by st before s n
 lists_agree puts weight lighter of by st before (Leave s) link n = leave_list puts weight lighter of by st before s n
-lists_agree puts weight lighter of by st before (End s) link n = end_list puts weight of by st before s n
+lists_agree puts weight lighter of by st before (End s) link n = end_list puts weight lighter of by st before s n
 lists_agree puts weight lighter of by st before (Refresh s) link n = refresh_list puts weight lighter of by st before s n
 lists_agree puts weight lighter of by st before (Flush s) link n = flush_list puts weight lighter of by st before s n
 lists_agree puts weight lighter of by st before (Retire s v r) link n = retire_list puts weight lighter of by st before s v r n

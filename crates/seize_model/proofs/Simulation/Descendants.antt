@@ -4,11 +4,12 @@ use Rattle.std.specs.List.{AllByRecursion, slice_get}
 use Rattle.std.proofs.lemmas.Grind.{common_steps}
 use Rattle.seize_machine.specs.Machine.State.{has}
 use Rattle.seize_model.specs.Waiting.Further.{put_by}
-use Rattle.seize_model.proofs.Simulation.Events.{if_yes, if_no, lt_yes}
+use Rattle.seize_model.proofs.Simulation.Events.{lt_yes}
 use Rattle.seize_model.proofs.Simulation.Names.{Names}
 use Rattle.seize_model.proofs.Simulation.Pairs.{pair_of, number_of}
 use Rattle.seize_model.proofs.Simulation.Renaming.{AgreeBelow, past}
 use Rattle.seize_model.proofs.Simulation.Views.{contents}
+use Rattle.seize_model.proofs.Cases.{if_yes, if_no}
 
 -- what a value puts, by its place
 abbrev pub put_at : {T R : Type 0} → (R → T → List T) → Option (T × R) → ℕ → Option (T × R)

@@ -55,18 +55,18 @@ abbrev pub waiting_more : {T R : Type 0} → waiting.ModelState T R → List (T 
 waiting_more st values = record st { slots = map (wait_if_active (length st.retired)) st.slots; retired = st.retired ++ values ∷ [] }
 
 -- no batch that was never retired waits for a slot
-unmade : {T R X : Type 0} (of : Naming T R X) (st : waiting.ModelState T R) (slots : List machine.Slot) (heads : List Head) (batches : List Batch) (links : List (Option ℕ)) → Near of [] st slots heads batches links
+unmade : {T R X : Type 0} (of : Naming T R X) (st : waiting.ModelState T R) (slots : List machine.Slot) (heads : List Head) (batches : List Batch) (links : List (Option ℕ)) (rest : List ℕ) → Near of [] st slots heads batches links rest
     → count_by (waits_for (length st.retired)) st.slots ≡ 0
-unmade of st slots heads batches links n =
+unmade of st slots heads batches links rest n =
     let past : get_or batches (length st.retired) no_batch ≡ no_batch = get_or_past batches (length st.retired) no_batch (omega (arith, n.retired)) in
     let zero_is : pos 0 ≡ pos (count_by (waits_for (length st.retired)) st.slots + 0) = sym (ap (λ (k : Batch). k.count) past) ∙ n.counts (length st.retired) in
     omega (arith, ints)
 
-pub near_waits : {T R X : Type 0} (of : Naming T R X) (numbers : List ℕ) (values : List (T × R)) (st : waiting.ModelState T R) (slots : List machine.Slot) (heads : List Head) (batches : List Batch) (links : List (Option ℕ))
-    → Near of [] st slots heads batches links → Denote of numbers values
+pub near_waits : {T R X : Type 0} (of : Naming T R X) (numbers : List ℕ) (values : List (T × R)) (st : waiting.ModelState T R) (slots : List machine.Slot) (heads : List Head) (batches : List Batch) (links : List (Option ℕ)) (rest : List ℕ)
+    → Near of [] st slots heads batches links rest → Denote of numbers values
     → (count_by (waits_for (length st.retired)) (waiting_more st values).slots ≡ length (actives 0 heads))
-    × Near of [] (waiting_more st values) slots (map (with_front (length st.retired)) heads) (batches ++ record { values = numbers; count = pos (length (actives 0 heads)) } ∷ []) links
-near_waits {T} {R} of numbers values st slots heads batches links n stand = (
+    × Near of [] (waiting_more st values) slots (map (with_front (length st.retired)) heads) (batches ++ record { values = numbers; count = pos (length (actives 0 heads)) } ∷ []) links rest
+near_waits {T} {R} of numbers values st slots heads batches links rest n stand = (
   won,
   record {
     numbers = rw (length-map st.slots (wait_if_active b)) n.numbers;
@@ -78,6 +78,7 @@ near_waits {T} {R} of numbers values st slots heads batches links n stand = (
     values = λ i. values_at i (or_same i b);
     counts = λ i. counts_at i (or_same i b);
     links_are = n.links_are;
+    rest_is = n.rest_is;
   },
 )
   where
@@ -85,13 +86,13 @@ near_waits {T} {R} of numbers values st slots heads batches links n stand = (
     b = length st.retired
 
     none : count_by (waits_for (length st.retired)) st.slots ≡ 0
-    none = unmade of st slots heads batches links n
+    none = unmade of st slots heads batches links rest n
 
     new : Batch
     new = record { values = numbers; count = pos (length (actives 0 heads)) }
 
     won : count_by (waits_for (length st.retired)) (waiting_more st values).slots ≡ length (actives 0 heads)
-    won = new_count (length st.retired) st.slots (unmade of st slots heads batches links n) ∙ sym (ap (λ (l : List Head). length (actives 0 l)) n.heads_are ∙ actives_count 0 st.slots)
+    won = new_count (length st.retired) st.slots (unmade of st slots heads batches links rest n) ∙ sym (ap (λ (l : List Head). length (actives 0 l)) n.heads_are ∙ actives_count 0 st.slots)
 
     values_at : (i : ℕ) → (i ≡ length st.retired) ⊎ (i ≢ length st.retired)
         → Denote of (get_or (batches ++ record { values = numbers; count = pos (length (actives 0 heads)) } ∷ []) i no_batch).values (get_or (st.retired ++ values ∷ []) i [])

@@ -1,5 +1,5 @@
 -- What each event does to a slot whose call is under way.
-use Rattle.std.proofs.Common.{◌≡◌, ℕ, zero, suc, ◌+◌, ◌<◌, ◌≤◌, ℤ, pos, ◌+ℤ◌, ◌-ℤ◌, Bool, true, false, ◌==◌, if◌then◌else◌, nat_lt, List, [], ◌∷◌, ◌++◌, length, set, Some, None, refl, ◌∙◌, ap, ◌⊎◌, inl, inr, arith}
+use Rattle.std.proofs.Common.{◌≡◌, ℕ, ◌+◌, ◌<◌, ◌≤◌, ℤ, pos, ◌+ℤ◌, ◌-ℤ◌, Bool, true, ◌==◌, if◌then◌else◌, nat_lt, List, [], ◌∷◌, ◌++◌, length, set, Some, None, refl, ◌∙◌, ap, ◌⊎◌, inl, inr, arith}
 use Rattle.std.proofs.lemmas.List.{get_or-set_same, length-set}
 use Rattle.seize_machine.specs.Machine.State.{State, Slot, Inactive, Active, Place, Append, Mark, Look, Try, Add, Out, Rest, slot_at, head_at, batch_at, is_active, waiting_at, no_slot}
 use Rattle.seize_machine.specs.Machine.Event.{Put, ReadHead, Detach, Insert, AddCount, SwapOut, SubCount, Hand, Return}
@@ -8,6 +8,7 @@ use Rattle.seize_machine.specs.declared.machine.event.Try.TheVariants.{Won}
 use Rattle.seize_machine.specs.declared.machine.event.Answer.{Answer}
 use Rattle.seize_machine.specs.declared.machine.event.Answer.TheVariants.{Done, Head as HeadRead, Count, Handed}
 use Rattle.seize_machine.proofs.Facts.{Step, Stands, next_of, step_put as put_of, after_put, counted}
+use Rattle.seize_model.proofs.Counts.{set_twice}
 
 -- slot s has this batch, and its call stands so; all else is as in base
 abbrev pub busy_slot : List ℕ → Place → List ℕ → Slot
@@ -19,19 +20,6 @@ busy base s batch place queue = slot_set base s (busy_slot batch place queue)
 -- the same with no call under way
 abbrev pub at_rest : State → ℕ → List ℕ → State
 at_rest base s batch = slot_set base s (record { used = true; batch = batch; call = None })
-
-pub set_twice : {X : Type 0} (xs : List X) (i : ℕ) (a b : X) → set (set xs i a) i b ≡ set xs i b
-set_twice [] i a b = refl
-set_twice (x ∷ xs) zero a b = refl
-set_twice (x ∷ xs) (suc i) a b = ap (λ ys. x ∷ ys) (set_twice xs i a b)
-
-pub if_yes : {A : Type 0} (b : Bool) (x y : A) → b ≡ true → (if b then x else y) ≡ x
-if_yes true x y e = refl
-if_yes false x y e = absurd (cc)
-
-pub if_no : {A : Type 0} (b : Bool) (x y : A) → b ≡ false → (if b then x else y) ≡ y
-if_no false x y e = refl
-if_no true x y e = absurd (cc)
 
 pub same : (n : ℕ) → (n == n) ≡ true
 same n = grind arith

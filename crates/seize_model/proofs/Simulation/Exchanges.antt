@@ -21,8 +21,8 @@ use Rattle.seize_model.proofs.Simulation.Coupling.{Naming, NearAt}
 use Rattle.seize_model.proofs.Simulation.Views.{contents, with_reclaimers, near_of, near_with, shows_of, shows_with}
 use Rattle.seize_model.proofs.Simulation.Plays.{play_first, play_none, First, first_of}
 use Rattle.seize_model.proofs.Simulation.Beginnings.{OneEvent, one_of}
-use Rattle.seize_model.proofs.Simulation.Jobs.{guard_of}
 use Rattle.seize_model.proofs.Simulation.Links.{reads, swaps, swapped_near, same_link}
+use Rattle.seize_model.proofs.WaitingSets.Refusals.{guard_of}
 
 -- what the exchange answers
 abbrev pub exchange_answer : {T R : Type 0} → waiting.ModelState T R → ℕ → Option T → Option Refusal → calls.Response (Option T) T R

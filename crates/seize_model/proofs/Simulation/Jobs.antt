@@ -9,13 +9,12 @@ use Rattle.seize_machine.specs.declared.machine.event.Answer.{Answer}
 use Rattle.seize_machine.proofs.Facts.{if_some, and_true}
 use Rattle.seize_machine.specs.declared.machine.event.Job as job
 use Rattle.seize_machine.specs.declared.machine.event.Answer.TheVariants.{Done as DoneEvent}
-use Rattle.seize_table.specs.declared.refusal.Refusal.TheVariants.{NotInUse, NotActive}
 use Rattle.seize_model.specs.Waiting.State as waiting
 use Rattle.seize_model.specs.Waiting.State.{model_slot, set_slot}
 use Rattle.seize_model.specs.Waiting.Attempt.{with_gone, attempt, gives_up, active_slots, release_all, part, put}
 use Rattle.seize_model.specs.Waiting.Further.{with_further, Lighter}
 use Rattle.seize_model.proofs.WaitingSets.FurtherValues.{afterwards-nil}
-use Rattle.seize_model.specs.Waiting.Calls.{first_refusal, no_guard, unused, is_free, is_owned, part_if_alone}
+use Rattle.seize_model.specs.Waiting.Calls.{no_guard, unused, is_free, is_owned, part_if_alone}
 use Rattle.seize_model.specs.Waiting.Lists.{Flush, Retire, Refresh, Done, done_reply, step}
 use Rattle.seize_model.specs.Agreement.Shows.{head_of}
 use Rattle.seize_model.specs.Agreement.Play.{play}
@@ -27,33 +26,21 @@ use Rattle.seize_model.proofs.Simulation.Paths.{Carried}
 use Rattle.seize_model.proofs.Simulation.Determinism.{only_append, only_out}
 use Rattle.seize_model.proofs.Simulation.Runs.{Leads, run_carried}
 use Rattle.seize_model.proofs.Simulation.Lists.{left_carried}
-use Rattle.seize_model.proofs.Simulation.Events.{busy, at_rest, set_twice, if_yes, put_step, out_step}
+use Rattle.seize_model.proofs.Simulation.Events.{busy, at_rest, put_step, out_step}
 use Rattle.seize_model.proofs.Simulation.Coupling.{Near, NearAt, near_out, Denote, CoupledSlot, Naming}
 use Rattle.seize_model.proofs.Simulation.Names.{Names, Holds, holds_always, holds_same, holds_attempt, holds_put, holds_part, Always}
 use Rattle.seize_model.proofs.Simulation.Work.{Does, nothing_done, attempt_does, own_slot, in_slots}
 use Rattle.seize_model.proofs.Simulation.Walks.{walk_does, after_put}
 use Rattle.seize_model.proofs.Simulation.Queues.{Ends, settled_ends}
-use Rattle.seize_model.proofs.Simulation.Beginnings.{begin_flush, begin_refresh, begin_retire, in_use, in_machine, is_at_rest, near_at_rest, head_is, head_active, JobEnds, JobRun, job_run, job_list, names_none, run_of, job_outcome, no_events, no_list, run_unless, list_unless, Run, StartsFor}
+use Rattle.seize_model.proofs.Simulation.Beginnings.{begin_flush, begin_refresh, begin_retire, in_machine, is_at_rest, near_at_rest, head_is, head_active, JobEnds, JobRun, whole_run, whole_list, names_none, run_of, job_outcome, no_events, no_list, run_unless, list_unless, Run, StartsFor}
 use Rattle.seize_model.proofs.Simulation.Plays.{First, first_of}
+use Rattle.seize_model.proofs.Cases.{if_yes}
+use Rattle.seize_model.proofs.WaitingSets.Refusals.{in_use, used_of, guard_of}
+use Rattle.seize_model.proofs.Counts.{set_twice}
 
 -- a call that isn't refused has its slot in use, and a guard
-pub used_of : {T R : Type 0} (st : waiting.ModelState T R) (s : ℕ) → unused st s ≡ None → is_free (model_slot st s).kind ≡ false
-used_of st s e = go (is_free (model_slot st s).kind) e
-  where
-    go : (a : Bool) → (if a then Some NotInUse else None) ≡ None → a ≡ false
-    go true e = absurd (cc)
-    go false e = refl
-
-pub guard_of : {T R : Type 0} (st : waiting.ModelState T R) (s : ℕ) → no_guard st s ≡ None → (is_free (model_slot st s).kind ≡ false) × (waiting.has_guard (model_slot st s) ≡ true)
-guard_of st s e = go (is_free (model_slot st s).kind) (waiting.has_guard (model_slot st s)) e
-  where
-    go : (a b : Bool) → first_refusal (if a then Some NotInUse else None) (if b then None else Some NotActive) ≡ None → (a ≡ false) × (b ≡ true)
-    go true b e = absurd (cc)
-    go false true e = (refl, refl)
-    go false false e = absurd (cc)
-
 pub active_head : {T R X : Type 0} (of : Naming T R X) (st : waiting.ModelState T R) (ms : State) (s : ℕ) (t : Bool) → NearAt of [] st ms → waiting.has_guard (model_slot st s) ≡ t → is_active (head_at ms s) ≡ t
-active_head of st ms s t n e = ap is_active (head_is of st ms.slots ms.heads ms.batches ms.links [] s n) ∙ head_active (model_slot st s) ∙ e
+active_head of st ms s t n e = ap is_active (head_is of st ms.slots ms.heads ms.batches ms.links ms.rest [] s n) ∙ head_active (model_slot st s) ∙ e
 
 -- an event at a slot that is idle, in use
 pub at_idle : {T R X : Type 0} (of : Naming T R X) (st : waiting.ModelState T R) (ms : State) (size s : ℕ) (e : Event) (d : State × Answer) → NearAt of [] st ms → is_free (model_slot st s).kind ≡ false
@@ -99,16 +86,16 @@ flush_run {T} {R} puts weight lighter of P names st before s holds near =
     let n : NearAt of [] st before = near in
     let g : (is_free (model_slot st s).kind ≡ false) × (waiting.has_guard (model_slot st s) ≡ true) = guard_of st s e in
     let run : JobRun puts of st.size s (model_slot st s).guards job.TheVariants.Flush before (with_further puts weight s (attempt st s))
-    = job_run puts of st.size s (model_slot st s).guards job.TheVariants.Flush before _ (with_further puts weight s (attempt st s)) (begins_flush of st before s n g.0 g.1)
+    = whole_run puts of st.size s (model_slot st s).guards (Begin s job.TheVariants.Flush) before _ (with_further puts weight s (attempt st s)) (begins_flush of st before s n g.0 g.1)
     (flush_ends puts weight lighter of P _ st before s _ (run_carried puts of P names st.size s _) holds (near_at_rest of st before s n g.0) (in_machine of st before s n (in_use st s g.0)) (Leads.stays _)) in
-    run_of puts of (Flush s) st before st.size s (model_slot st s).guards job.TheVariants.Flush Done (with_further puts weight s (attempt st s)) refl run run.makes (names_none {R = R} of.link (Flush s) run.events (λ e. tt)) tt refl)
+    run_of puts of (Flush s) st before (IsJob s job.TheVariants.Flush) _ Done (with_further puts weight s (attempt st s)) run (run.ends.near, run.ends.gone) run.makes (names_none {R = R} of.link (Flush s) run.events (λ e. tt)) tt refl)
 
 -- each list of the job
 pub flush_job_list : {T R : Type 0} (puts : R → T → List T) (weight : T → ℕ) → Lighter puts weight → (of : ℕ → T) (by : ℕ → R) (st : waiting.ModelState T R) (before : State) (s : ℕ) (events : List Event) (answers : List Answer) (later : State) → NearAt (with_reclaimers of by) [] st before
     → is_free (model_slot st s).kind ≡ false → waiting.has_guard (model_slot st s) ≡ true → IsJob s job.TheVariants.Flush events → play st.size before events ≡ Some (later, answers) → ArePutBy puts of by events answers
-    → JobEnds (with_reclaimers of by) s (model_slot st s).guards (with_further puts weight s (attempt st s)) later answers
+    → JobEnds (with_reclaimers of by) st.size s (model_slot st s).guards (with_further puts weight s (attempt st s)) later answers
 flush_job_list puts weight lighter of by st before s events answers later n used active makes legal put =
-    job_list puts of by st.size s (model_slot st s).guards job.TheVariants.Flush before _ later (with_further puts weight s (attempt st s)) events answers (begins_flush (with_reclaimers of by) st before s n used active) makes legal put (λ now.
+    whole_list puts of by st.size s (model_slot st s).guards (Begin s job.TheVariants.Flush) before _ later (with_further puts weight s (attempt st s)) events answers (begins_flush (with_reclaimers of by) st before s n used active) makes legal put (λ now.
     flush_ends puts weight lighter (with_reclaimers of by) Always _ st before s _ (left_carried puts of by st.size s later (handed answers)) (holds_always st) (near_at_rest (with_reclaimers of by) st before s n used) (in_machine (with_reclaimers of by) st before s n (in_use st s used)) now)
 
 pub flush_list : {T R : Type 0} (puts : R → T → List T) (weight : T → ℕ) → Lighter puts weight → (of : ℕ → T) (by : ℕ → R) (st : waiting.ModelState T R) (before : State) (s : ℕ) → NearAt (with_reclaimers of by) [] st before
@@ -116,7 +103,7 @@ pub flush_list : {T R : Type 0} (puts : R → T → List T) (weight : T → ℕ)
 flush_list {T} {R} puts weight lighter of by st before s n =
     list_unless puts of by (Flush s) st before done_reply None (no_guard st s) tt (with_further puts weight s (attempt st s)) n (λ e events answers later makes legal names with put.
     let g : (is_free (model_slot st s).kind ≡ false) × (waiting.has_guard (model_slot st s) ≡ true) = guard_of st s e in
-    job_outcome of by (Flush s) s (model_slot st s).guards Done (with_further puts weight s (attempt st s)) events answers later
+    job_outcome of by (Flush s) st.size s (model_slot st s).guards Done (with_further puts weight s (attempt st s)) events answers later
     (flush_job_list puts weight lighter of by st before s events answers later n g.0 g.1 makes legal put)
     refl)
 
@@ -139,7 +126,7 @@ pub retire_job : {T R X : Type 0} (puts : R → T → List T) (weight : T → �
     → (not (has n before.named) || has n before.loose) ≡ true → of.name n ≡ of.view v
     → JobRun puts of st.size s (model_slot st s).guards (job.TheVariants.Retire n) before (with_further puts weight s (put st s v))
 retire_job puts weight lighter of P names st before s n v holds own near used free stands =
-    job_run puts of st.size s (model_slot st s).guards (job.TheVariants.Retire n) before _ (with_further puts weight s (put st s v)) (begins_retire of st before s n near used free)
+    whole_run puts of st.size s (model_slot st s).guards (Begin s (job.TheVariants.Retire n)) before _ (with_further puts weight s (put st s v)) (begins_retire of st before s n near used free)
     (retire_ends puts weight lighter of P _ st before s n v _ (run_carried puts of P names st.size s _) holds own (near_at_rest of st before s near used) (in_machine of st before s near (in_use st s used)) stands (Leads.stays _))
 
 pub retire_run : {T R X : Type 0} (puts : R → T → List T) (weight : T → ℕ) → Lighter puts weight → (of : Naming T R X) (P : T × R → Type 0) → Names puts of P → (st : waiting.ModelState T R) (before : State) (s : ℕ) (v : T) (r : R) → Holds T R P st → P (v, r) → NearAt of [] st before
@@ -150,16 +137,16 @@ retire_run {T} {R} puts weight lighter of P names st before s v r holds own near
     let held : of.link name.0 ≡ v = names.link name.0 (v, r) name.2 in
     let run : JobRun puts of st.size s (model_slot st s).guards (job.TheVariants.Retire name.0) before (with_further puts weight s (put st s (v, r)))
     = retire_job puts weight lighter of P names st before s name.0 (v, r) holds own near (used_of st s e) (ap (λ (t : Bool). not t || has name.0 before.loose) name.1) name.2 in
-    run_of puts of (Retire s v r) st before st.size s (model_slot st s).guards (job.TheVariants.Retire name.0) Done (with_further puts weight s (put st s (v, r))) refl run (name.0, run.makes)
+    run_of puts of (Retire s v r) st before (IsJob s (job.TheVariants.Retire name.0)) _ Done (with_further puts weight s (put st s (v, r))) run (run.ends.near, run.ends.gone) (name.0, run.makes)
     (subst (λ (l : List Event). NamesOwn of.link (Retire s v r) l) (sym run.makes.1) held)
     (subst (λ (l : List Event). StartsFor of (Retire s v r) l) (sym run.makes.1) (name.2 ∙ ap (λ (x : T). of.view (x, r)) (sym held))) refl)
 
 -- each list of the job that retires number n
 pub retire_job_list : {T R : Type 0} (puts : R → T → List T) (weight : T → ℕ) → Lighter puts weight → (of : ℕ → T) (by : ℕ → R) (st : waiting.ModelState T R) (before : State) (s n : ℕ) (v : T) (r : R) (events : List Event) (answers : List Answer) (later : State) → NearAt (with_reclaimers of by) [] st before
     → is_free (model_slot st s).kind ≡ false → of n ≡ v → IsJob s (job.TheVariants.Retire n) events → play st.size before events ≡ Some (later, answers) → by n ≡ r → ArePutBy puts of by events answers
-    → JobEnds (with_reclaimers of by) s (model_slot st s).guards (with_further puts weight s (put st s (v, r))) later answers
+    → JobEnds (with_reclaimers of by) st.size s (model_slot st s).guards (with_further puts weight s (put st s (v, r))) later answers
 retire_job_list {T} {R} puts weight lighter of by st before s n v r events answers later near used stands makes legal with puts_all =
-    job_list puts of by st.size s (model_slot st s).guards (job.TheVariants.Retire n) before _ later (with_further puts weight s (put st s (v, r))) events answers (begins_retire (with_reclaimers of by) st before s n near used free) makes legal puts_all (λ now.
+    whole_list puts of by st.size s (model_slot st s).guards (Begin s (job.TheVariants.Retire n)) before _ later (with_further puts weight s (put st s (v, r))) events answers (begins_retire (with_reclaimers of by) st before s n near used free) makes legal puts_all (λ now.
     retire_ends puts weight lighter (with_reclaimers of by) Always _ st before s n (v, r) _ (left_carried puts of by st.size s later (handed answers)) (holds_always st) tt (near_at_rest (with_reclaimers of by) st before s near used) (in_machine (with_reclaimers of by) st before s near (in_use st s used)) pair now)
   where
     begun : First st.size before (Begin s (job.TheVariants.Retire n)) makes.0 later answers
@@ -175,7 +162,7 @@ pub retire_list : {T R : Type 0} (puts : R → T → List T) (weight : T → ℕ
     → EachList puts of by (Retire s v r) st before (step puts weight st (Retire s v r))
 retire_list {T} {R} puts weight lighter of by st before s v r n =
     list_unless puts of by (Retire s v r) st before done_reply (Some v) (unused st s) tt (with_further puts weight s (put st s (v, r))) n (λ e events answers later makes legal names with puts_all.
-    job_outcome of by (Retire s v r) s (model_slot st s).guards Done (with_further puts weight s (put st s (v, r))) events answers later
+    job_outcome of by (Retire s v r) st.size s (model_slot st s).guards Done (with_further puts weight s (put st s (v, r))) events answers later
     (retire_job_list puts weight lighter of by st before s makes.0 v r events answers later n (used_of st s e) (subst (λ (l : List Event). NamesOwn of (Retire s v r) l) makes.1.1 names) makes.1 legal (subst (λ (l : List Event). RetiresWith by (Retire s v r) l) makes.1.1 with) puts_all)
     refl)
 
@@ -187,13 +174,13 @@ pub out_does : {T R X : Type 0} (puts : R → T → List T) (of : Naming T R X) 
     → K (busy base s batch (Out stays) []) [] → Does puts of K st.size s new.guards [] [] (release_all (set_slot st s new) (model_slot st s).order)
 out_does {T} {R} puts of P K st base s stays batch new carried holds as_before n h active order head shown now =
     let within : s < length st.slots = rw (← in_slots of st base s batch n) h in
-    let out : Near of (model_slot st s).order (set_slot st s new) (set (at_rest base s batch).slots s (record { used = true; batch = batch; call = None })) (set base.heads s (head_of new)) base.batches base.links
-    = near_out of st (at_rest base s batch).slots base.heads base.batches base.links s new (record { used = true; batch = batch; call = None }) n within shown order in
+    let out : Near of (model_slot st s).order (set_slot st s new) (set (at_rest base s batch).slots s (record { used = true; batch = batch; call = None })) (set base.heads s (head_of new)) base.batches base.links base.rest
+    = near_out of st (at_rest base s batch).slots base.heads base.batches base.links base.rest s new (record { used = true; batch = batch; call = None }) n within shown order in
     let near : NearAt of (model_slot st s).order (set_slot st s new) (at_rest (set_head base s (if stays then Active [] else Inactive)) s batch)
-    = subst (λ (x : Head). Near of (model_slot st s).order (set_slot st s new) (at_rest base s batch).slots (set base.heads s x) base.batches base.links) head
-    (subst (λ (l : List Slot). Near of (model_slot st s).order (set_slot st s new) l (set base.heads s (head_of new)) base.batches base.links) (set_twice base.slots s _ _) out) in
+    = subst (λ (x : Head). Near of (model_slot st s).order (set_slot st s new) (at_rest base s batch).slots (set base.heads s x) base.batches base.links base.rest) head
+    (subst (λ (l : List Slot). Near of (model_slot st s).order (set_slot st s new) l (set base.heads s (head_of new)) base.batches base.links base.rest) (set_twice base.slots s _ _) out) in
     let walk : waiting_at (head_at base s) ≡ (model_slot st s).order
-    = ap waiting_at (head_is of st (at_rest base s batch).slots base.heads base.batches base.links [] s n) ∙ ap (λ (t : Bool). waiting_at (if t then Active (model_slot st s).order else Inactive)) active in
+    = ap waiting_at (head_is of st (at_rest base s batch).slots base.heads base.batches base.links base.rest [] s n) ∙ ap (λ (t : Bool). waiting_at (if t then Active (model_slot st s).order else Inactive)) active in
     let own : model_slot (set_slot st s new) s ≡ new = get_or-set_same st.slots s new waiting.unmade_slot within in
     let swapped : K (busy (set_head base s (if stays then Active [] else Inactive)) s batch (Rest [] (waiting_at (head_at base s))) []) []
     = carried.forced _ _ (SwapOut s) _ [] (out_step st.size base s stays batch [] h) refl (refl, refl, refl) (only_out st.size base s stays batch [] h) now in
@@ -227,13 +214,13 @@ refresh_run {T} {R} puts weight lighter of P names st before s holds near =
 
     parts : (is_free (model_slot st s).kind ≡ false) × (waiting.has_guard (model_slot st s) ≡ true) → JobRun puts of st.size s (model_slot st s).guards job.TheVariants.Refresh before (with_further puts weight s (part st s))
     parts g =
-        job_run puts of st.size s (model_slot st s).guards job.TheVariants.Refresh before _ (with_further puts weight s (part st s)) (begins_refresh of st before s (near) g.0 g.1)
+        whole_run puts of st.size s (model_slot st s).guards (Begin s job.TheVariants.Refresh) before _ (with_further puts weight s (part st s)) (begins_refresh of st before s (near) g.0 g.1)
         (refresh_ends puts weight lighter of P _ st before s _ (run_carried puts of P names st.size s _) holds (near_at_rest of st before s (near) g.0) (in_machine of st before s (near) (in_use st s g.0)) g.1 (Leads.stays _))
 
     go : (t : Bool) → (is_owned (model_slot st s).kind || ((model_slot st s).guards == 1)) ≡ t → (is_free (model_slot st s).kind ≡ false) × (waiting.has_guard (model_slot st s) ≡ true) → Run puts of (Refresh s) st before (Done, with_further puts weight s (if t then part st s else (st, [])))
     go true is g =
         let run : JobRun puts of st.size s (model_slot st s).guards job.TheVariants.Refresh before (with_further puts weight s (part st s)) = parts g in
-        run_of puts of (Refresh s) st before st.size s (model_slot st s).guards job.TheVariants.Refresh Done (with_further puts weight s (part st s)) refl run
+        run_of puts of (Refresh s) st before (IsJob s job.TheVariants.Refresh) _ Done (with_further puts weight s (part st s)) run (run.ends.near, run.ends.gone)
         (subst (λ (b : Bool). Where b (IsJob s job.TheVariants.Refresh) run.events) (sym is) run.makes) (names_none {R = R} of.link (Refresh s) run.events (λ e. tt)) tt refl
     go false is g = subst (λ o. Run puts of (Refresh s) st before (Done, o)) (sym (settled_nothing puts weight st s))
         (no_events puts of (Refresh s) st before Done st (near) (subst (λ (b : Bool). Where b (IsJob s job.TheVariants.Refresh) []) (sym is) refl) refl)
@@ -241,9 +228,9 @@ refresh_run {T} {R} puts weight lighter of P names st before s holds near =
 -- each list of the job
 pub refresh_job_list : {T R : Type 0} (puts : R → T → List T) (weight : T → ℕ) → Lighter puts weight → (of : ℕ → T) (by : ℕ → R) (st : waiting.ModelState T R) (before : State) (s : ℕ) (events : List Event) (answers : List Answer) (later : State) → NearAt (with_reclaimers of by) [] st before
     → is_free (model_slot st s).kind ≡ false → waiting.has_guard (model_slot st s) ≡ true → IsJob s job.TheVariants.Refresh events → play st.size before events ≡ Some (later, answers) → ArePutBy puts of by events answers
-    → JobEnds (with_reclaimers of by) s (model_slot st s).guards (with_further puts weight s (part st s)) later answers
+    → JobEnds (with_reclaimers of by) st.size s (model_slot st s).guards (with_further puts weight s (part st s)) later answers
 refresh_job_list puts weight lighter of by st before s events answers later n used active makes legal put =
-    job_list puts of by st.size s (model_slot st s).guards job.TheVariants.Refresh before _ later (with_further puts weight s (part st s)) events answers (begins_refresh (with_reclaimers of by) st before s n used active) makes legal put (λ now.
+    whole_list puts of by st.size s (model_slot st s).guards (Begin s job.TheVariants.Refresh) before _ later (with_further puts weight s (part st s)) events answers (begins_refresh (with_reclaimers of by) st before s n used active) makes legal put (λ now.
     refresh_ends puts weight lighter (with_reclaimers of by) Always _ st before s _ (left_carried puts of by st.size s later (handed answers)) (holds_always st) (near_at_rest (with_reclaimers of by) st before s n used) (in_machine (with_reclaimers of by) st before s n (in_use st s used)) active now)
 
 pub refresh_list : {T R : Type 0} (puts : R → T → List T) (weight : T → ℕ) → Lighter puts weight → (of : ℕ → T) (by : ℕ → R) (st : waiting.ModelState T R) (before : State) (s : ℕ) → NearAt (with_reclaimers of by) [] st before
@@ -255,7 +242,7 @@ refresh_list {T} {R} puts weight lighter of by st before s n =
     go : (t : Bool) → (is_free (model_slot st s).kind ≡ false) × (waiting.has_guard (model_slot st s) ≡ true) → (events : List Event) (answers : List Answer) (later : State) → Where t (IsJob s job.TheVariants.Refresh) events
         → play st.size before events ≡ Some (later, answers) → ArePutBy puts of by events answers → IsOutcome T R of by (Refresh s) (Done, with_further puts weight s (if t then part st s else (st, []))) events answers later
     go true g events answers later makes legal put =
-        job_outcome of by (Refresh s) s (model_slot st s).guards Done (with_further puts weight s (part st s)) events answers later
+        job_outcome of by (Refresh s) st.size s (model_slot st s).guards Done (with_further puts weight s (part st s)) events answers later
         (refresh_job_list puts weight lighter of by st before s events answers later n g.0 g.1 makes legal put)
         refl
     go false g events answers later makes legal put =

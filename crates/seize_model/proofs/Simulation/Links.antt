@@ -1,78 +1,71 @@
 -- The calls of one event: end, protect and swap, which may go on with a retirement.
-use Rattle.std.proofs.Common.{◌≡◌, ℕ, ◌<◌, Bool, true, false, not, ◌&&◌, ◌||◌, ◌==◌, if◌then◌else◌, nat_lt, List, [], ◌∷◌, ◌++◌, length, map, get_or, set, Option, Some, None, Ok, is_some, option_to_list, refl, sym, ◌∙◌, ap, subst, arith}
+use Rattle.std.proofs.Common.{◌≡◌, ℕ, ◌<◌, Bool, true, false, not, ◌&&◌, ◌||◌, if◌then◌else◌, nat_lt, List, [], ◌∷◌, ◌++◌, length, map, get_or, set, Option, Some, None, Ok, is_some, option_to_list, refl, sym, ◌∙◌, ap, subst, arith}
 use Rattle.std.proofs.lemmas.List.{length-map, map-set}
 use Rattle.std.proofs.Math.ListN.{get_or-map}
 use Rattle.seize_machine.specs.Machine.State as machine
-use Rattle.seize_machine.specs.Machine.State.{State, has, is_active}
-use Rattle.seize_machine.specs.Machine.Event.{Event, Give, ReadLink, ExchangeLink}
+use Rattle.seize_machine.specs.Machine.State.{State, has}
+use Rattle.seize_machine.specs.Machine.Event.{Event, ReadLink, ExchangeLink}
 use Rattle.seize_machine.specs.Machine.Next.{next, is_none_or_fresh}
 use Rattle.seize_machine.specs.Machine.Next as machine_next
 use Rattle.seize_machine.specs.declared.machine.event.Job as job
 use Rattle.seize_machine.specs.declared.machine.event.Exchange.TheVariants.{Swap as SwapLink}
 use Rattle.seize_machine.proofs.Facts.{swapped as link_swapped, if_some, and_true}
 use Rattle.seize_machine.specs.declared.machine.event.Answer.{Answer}
-use Rattle.seize_machine.specs.declared.machine.event.Answer.TheVariants.{Done as DoneEvent, Link}
+use Rattle.seize_machine.specs.declared.machine.event.Answer.TheVariants.{Link}
 use Rattle.seize_table.specs.declared.refusal.Refusal.{Refusal}
 use Rattle.seize_table.specs.declared.refusal.Refusal.TheVariants.{NotInUse}
 use Rattle.seize_model.specs.Waiting.State as waiting
 use Rattle.seize_model.specs.Waiting.State.{model_slot}
 use Rattle.seize_model.specs.Waiting.Attempt.{put}
 use Rattle.seize_model.specs.Waiting.Further.{with_further, Lighter}
-use Rattle.seize_model.specs.Waiting.Calls.{no_guard, not_registered, unless, is_free, model_link, with_number_free}
+use Rattle.seize_model.specs.Waiting.Calls.{no_guard, not_registered, unless, is_free, model_link, rest_and_batch, give_back}
 use Rattle.seize_model.specs.Waiting.Lists.{End, Protect, Swap, Reply, Done, Kept, Found, Refused, done_reply, end_reply, reply, retire_old, step}
 use Rattle.seize_model.specs.Agreement.Shows.{held_value}
-use Rattle.seize_model.specs.Agreement.Play.{play, with_answer}
+use Rattle.seize_model.specs.Agreement.Play.{play, with_answer, was_given}
 use Rattle.seize_machine.specs.Machine.History.{handed}
-use Rattle.seize_model.specs.Agreement.Events.{AreEventsOf, MakesFor, NamesOwn, IsRetiredFrom, RetiresWith, ArePutBy}
+use Rattle.seize_model.specs.Agreement.Events.{AreEventsOf, MakesFor, NamesOwn, IsEnded, Where, IsRetiredFrom, RetiresWith, ArePutBy}
 use Rattle.seize_model.specs.Agreement.Statement.{IsOutcome, EachList}
 use Rattle.seize_model.proofs.Simulation.Views.{with_reclaimers}
 use Rattle.seize_model.proofs.Simulation.Plays.{play_first, both_same, First, first_of}
-use Rattle.seize_model.proofs.Simulation.Events.{if_yes, lt_yes}
+use Rattle.seize_model.proofs.Simulation.Events.{lt_yes}
 use Rattle.seize_model.proofs.Simulation.Coupling.{NearAt, Naming}
 use Rattle.seize_model.proofs.Simulation.Names.{Names, Holds}
-use Rattle.seize_model.proofs.Simulation.Beginnings.{give_step, in_use, in_machine, near_at_rest, JobEnds, JobRun, outcome_of, no_events, no_list, one_event, one_list, run_unless, list_unless, Run, StartsFor}
-use Rattle.seize_model.proofs.Simulation.Jobs.{guard_of, active_head, at_idle, retire_job, retire_job_list}
-use Rattle.seize_model.proofs.Simulation.Guards.{registered_of, near_freed}
+use Rattle.seize_model.proofs.Simulation.Beginnings.{Reaches, JobEnds, PieceRun, JobRun, names_none, run_of, outcome_of, no_events, no_list, one_event, one_list, run_unless, list_unless, Run, StartsFor}
+use Rattle.seize_model.proofs.Simulation.Jobs.{active_head, retire_job, retire_job_list}
+use Rattle.seize_model.proofs.Simulation.Gathers.{ended_run, ended_list}
+use Rattle.seize_model.proofs.WaitingSets.Drain.{weighs}
+use Rattle.seize_model.proofs.Cases.{if_yes}
+use Rattle.seize_model.proofs.WaitingSets.Refusals.{guard_of, registered_of}
 
-no_guards : (k : ℕ) → not (k == 0) ≡ false → k ≡ 0
-no_guards k e = grind arith
+-- a number was given back
+was_ended : {T : Type 0} (s : ℕ) (events : List Event) → IsEnded s events → ◌≡◌ {A = Reply T} Done (was_given events)
+was_ended s _ IsEnded.gives = refl
+was_ended {T} s _ (IsEnded.gathers es fs made more) = ap {B = Reply T} (λ (l : List Event). was_given (l ++ fs)) (sym made.1)
 
--- a slot in use without a guard gives its number back
-pub end_step : {T R X : Type 0} (of : Naming T R X) (st : waiting.ModelState T R) (before : State) (s : ℕ) → NearAt of [] st before → is_free (model_slot st s).kind ≡ false → waiting.has_guard (model_slot st s) ≡ false
-    → next st.size before (Give s) ≡ Some (machine_next.slot_set before s (record { used = false; batch = (machine.slot_at before s).batch; call = None }), DoneEvent)
-end_step of st before s n used e =
-    at_idle of st before st.size s (Give s) _ n used (give_step st.size before s _ (in_machine of st before s n (in_use st s used)) (active_head of st before s false n e))
-
-pub end_near : {T R X : Type 0} (of : Naming T R X) (st : waiting.ModelState T R) (before : State) (s : ℕ) → NearAt of [] st before → is_free (model_slot st s).kind ≡ false → waiting.has_guard (model_slot st s) ≡ false
-    → NearAt of [] (with_number_free st s) (machine_next.slot_set before s (record { used = false; batch = (machine.slot_at before s).batch; call = None }))
-end_near of st before s n used e =
-    let within : s < length st.slots = in_use st s used in
-    near_freed of st before s (machine.slot_at before s).batch (near_at_rest of st before s n used) (in_machine of st before s n within) within (no_guards (model_slot st s).guards e)
-
-pub end_run : {T R X : Type 0} (puts : R → T → List T) (weight : T → ℕ) (of : Naming T R X) (st : waiting.ModelState T R) (before : State) (s : ℕ) → NearAt of [] st before
+pub end_run : {T R X : Type 0} (puts : R → T → List T) (weight : T → ℕ) → Lighter puts weight → (of : Naming T R X) (P : T × R → Type 0) → Names puts of P → (st : waiting.ModelState T R) (before : State) (s : ℕ) → Holds T R P st → NearAt of [] st before
     → Run puts of (End s) st before (step puts weight st (End s))
-end_run {T} {R} puts weight of st before s near = go (waiting.has_guard (model_slot st s)) refl
+end_run {T} {R} puts weight lighter of P names st before s holds near = go (waiting.has_guard (model_slot st s)) refl
   where
-    go : (t : Bool) → waiting.has_guard (model_slot st s) ≡ t → Run puts of (End s) st before (reply end_reply None (unless (not_registered st s) st (if t then (Ok false, (st, [])) else (Ok true, (with_number_free st s, [])))))
+    go : (t : Bool) → waiting.has_guard (model_slot st s) ≡ t → Run puts of (End s) st before (reply end_reply None (unless (not_registered st s) st (if t then (Ok false, (st, [])) else (Ok true, give_back puts weight st s))))
     go true e = run_unless puts of (End s) st before end_reply None (not_registered st s) false (st, []) near (λ f.
-        no_events puts of (End s) st before Kept st (near) (sym (ap (λ (b : Bool). if b then [] else Give s ∷ []) e)) refl)
-    go false e = run_unless puts of (End s) st before end_reply None (not_registered st s) true (with_number_free st s, []) near (λ f.
-        let n : NearAt of [] st before = near in
-        let used : is_free (model_slot st s).kind ≡ false = (registered_of st s f).0 in
-        one_event puts of (End s) st before _ (Give s) DoneEvent Done (with_number_free st s) (end_step of st before s n used e) (end_near of st before s n used e)
-        (sym (ap (λ (b : Bool). if b then [] else Give s ∷ []) e)) tt tt refl refl)
+        no_events puts of (End s) st before Kept st near (subst (λ (b : Bool). Where (not b) (IsEnded s) []) (sym e) refl) refl)
+    go false e = run_unless puts of (End s) st before end_reply None (not_registered st s) true (give_back puts weight st s) near (λ f.
+        let run : PieceRun puts of st.size (IsEnded s) before (Reaches of (give_back puts weight st s))
+        = ended_run puts weight lighter of P names s (weighs weight (rest_and_batch st s)) st before holds near ((registered_of st s f).0, e) (omega arith) in
+        run_of puts of (End s) st before (IsEnded s) (Reaches of (give_back puts weight st s)) Done (give_back puts weight st s) run run.ends (subst (λ (b : Bool). Where (not b) (IsEnded s) run.events) (sym e) run.makes) (names_none {R = R} of.link (End s) run.events (λ e. tt)) tt (was_ended s run.events run.makes))
 
-pub end_list : {T R : Type 0} (puts : R → T → List T) (weight : T → ℕ) (of : ℕ → T) (by : ℕ → R) (st : waiting.ModelState T R) (before : State) (s : ℕ) → NearAt (with_reclaimers of by) [] st before
+pub end_list : {T R : Type 0} (puts : R → T → List T) (weight : T → ℕ) → Lighter puts weight → (of : ℕ → T) (by : ℕ → R) (st : waiting.ModelState T R) (before : State) (s : ℕ) → NearAt (with_reclaimers of by) [] st before
     → EachList puts of by (End s) st before (step puts weight st (End s))
-end_list {T} {R} puts weight of by st before s n = go (waiting.has_guard (model_slot st s)) refl
+end_list {T} {R} puts weight lighter of by st before s n = go (waiting.has_guard (model_slot st s)) refl
   where
-    go : (t : Bool) → waiting.has_guard (model_slot st s) ≡ t → EachList puts of by (End s) st before (reply end_reply None (unless (not_registered st s) st (if t then (Ok false, (st, [])) else (Ok true, (with_number_free st s, [])))))
+    go : (t : Bool) → waiting.has_guard (model_slot st s) ≡ t → EachList puts of by (End s) st before (reply end_reply None (unless (not_registered st s) st (if t then (Ok false, (st, [])) else (Ok true, give_back puts weight st s))))
     go true e = list_unless puts of by (End s) st before end_reply None (not_registered st s) false (st, []) n (λ f events answers later makes legal names with put.
-        no_list of by (End s) st.size before Kept st events answers later n (makes ∙ ap (λ (b : Bool). if b then [] else Give s ∷ []) e) legal refl)
-    go false e = list_unless puts of by (End s) st before end_reply None (not_registered st s) true (with_number_free st s, []) n (λ f events answers later makes legal names with put.
-        let used : is_free (model_slot st s).kind ≡ false = (registered_of st s f).0 in
-        one_list of by (End s) st.size before _ (Give s) DoneEvent Done (with_number_free st s) events answers later (end_step (with_reclaimers of by) st before s n used e) (end_near (with_reclaimers of by) st before s n used e)
-        (makes ∙ ap (λ (b : Bool). if b then [] else Give s ∷ []) e) legal refl refl)
+        no_list of by (End s) st.size before Kept st events answers later n (subst (λ (b : Bool). Where (not b) (IsEnded s) events) e makes) legal refl)
+    go false e = list_unless puts of by (End s) st before end_reply None (not_registered st s) true (give_back puts weight st s) n (λ f events answers later makes legal names with put.
+        let made : IsEnded s events = subst (λ (b : Bool). Where (not b) (IsEnded s) events) e makes in
+        let ends : Reaches (with_reclaimers of by) (give_back puts weight st s) later answers
+        = ended_list puts weight lighter of by s (weighs weight (rest_and_batch st s)) st before events answers later n ((registered_of st s f).0, e) (omega arith) made legal put in
+        outcome_of of by (End s) Done (give_back puts weight st s) events answers later ends.0 ends.1 (was_ended s events made))
 
 -- what both sides find in a link
 pub same_link : {T R X : Type 0} (of : Naming T R X) (st : waiting.ModelState T R) (ms : State) (l : ℕ) → NearAt of [] st ms → model_link st l ≡ held_value of.link (machine.link_at ms l)
@@ -136,6 +129,7 @@ swapped_near of st before l number new n is = record {
   retired = n.retired;
   values = n.values;
   counts = n.counts;
+  rest_is = n.rest_is;
   links_are = map-set (held_value of.link) before.links l number ∙ ap (λ k. set k l (held_value of.link number)) n.links_are ∙ ap (λ x. set st.links l x) is;
 }
 
@@ -160,7 +154,7 @@ swap_run {T} {R} puts weight lighter of P names st before s l new r h holds new_
         let loose : has old (link_swapped before l name.0).loose ≡ true = ap (λ (x : Option ℕ). has old (before.loose ++ option_to_list x)) is ∙ has_last old before.loose in
         let run : JobRun puts of st.size s (model_slot st s).guards (job.TheVariants.Retire old) (link_swapped before l name.0) (with_further puts weight s (put (record st { links = set st.links l new }) s (of.link old, r)))
         = retire_job puts weight lighter of P names (record st { links = set st.links l new }) (link_swapped before l name.0) s old (of.link old, r)
-        (record { batches = holds.batches; retired = holds.retired }) (old_holds (of.link old) (same_link of st before l near ∙ ap (held_value of.link) is))
+        (record { batches = holds.batches; retired = holds.retired; rest = holds.rest }) (old_holds (of.link old) (same_link of st before l near ∙ ap (held_value of.link) is))
         (swapped_near of st before l name.0 new near name.2) used (is_free_name (has old (link_swapped before l name.0).named) _ loose) own in
         subst (λ (x : Option Refusal). Run puts of (Swap s l new r) st before (reply done_reply (Some (of.link old)) (unless x (record st { links = set st.links l new }) (Ok tt, with_further puts weight s (put (record st { links = set st.links l new }) s (of.link old, r))))))
         (sym (ap (λ (t : Bool). if t then Some NotInUse else None) used))
@@ -173,7 +167,7 @@ swap_run {T} {R} puts weight lighter of P names st before s l new r h holds new_
           starts = subst (λ (k : List Event). StartsFor of (Swap s l new r) (ExchangeLink s l (SwapLink name.0) ∷ k)) (sym run.makes.1) own;
           legal = play_first st.size before (ExchangeLink s l (SwapLink name.0)) run.events _ _ (swaps of st before s l name.0 near (guard_of st s e).1 h name.1)
               ∙ ap (λ (o : Option (State × List Answer)). with_answer (Link (machine.link_at before l)) o) run.legal;
-          near = subst (λ (k : State). NearAt of [] (with_further puts weight s (put (record st { links = set st.links l new }) s (of.link old, r))).0 k) (sym run.ends.is) run.ends.near;
+          near = run.ends.near;
           gone = run.ends.gone;
           reply = refl;
           put = (tt, run.put);
@@ -211,13 +205,13 @@ swap_list {T} {R} puts weight lighter of by st before s l new r h n = go (no_gua
         let with_old : by old ≡ r = subst (λ (k : List Event). RetiresWith by (Swap s l new r) k) (made ∙ ap (λ (k : List Event). ExchangeLink s l (SwapLink number) ∷ k) more.1) with in
         let put_rest : ArePutBy puts of by (ExchangeLink s l (SwapLink number) ∷ es) (first.answer ∷ first.rest) = subst (λ (k : List Answer). ArePutBy puts of by (ExchangeLink s l (SwapLink number) ∷ es) k) first.all (subst (λ (k : List Event). ArePutBy puts of by k answers) made put_all) in
         let none : handed answers ≡ handed first.rest = ap handed (first.all ∙ ap (λ (a : Answer). a ∷ first.rest) both.1) in
-        let ends : JobEnds (with_reclaimers of by) s (model_slot st s).guards (with_further puts weight s (put (record st { links = set st.links l new }) s (of old, r))) later first.rest
+        let ends : JobEnds (with_reclaimers of by) st.size s (model_slot st s).guards (with_further puts weight s (put (record st { links = set st.links l new }) s (of old, r))) later first.rest
         = retire_job_list puts weight lighter of by (record st { links = set st.links l new }) (link_swapped before l number) s old (of old) r es first.rest later
         (swapped_near (with_reclaimers of by) st before l number new n name) used refl more (ap (λ (k : State). play st.size k es) (sym both.0) ∙ first.legal) with_old put_rest.1 in
         subst (λ (x : Option Refusal). IsOutcome T R of by (Swap s l new r) (reply done_reply (Some (of old)) (unless x (record st { links = set st.links l new }) (Ok tt, with_further puts weight s (put (record st { links = set st.links l new }) s (of old, r))))) events answers later)
         (sym (ap (λ (t : Bool). if t then Some NotInUse else None) used))
         (outcome_of of by (Swap s l new r) Done (with_further puts weight s (put (record st { links = set st.links l new }) s (of old, r))) events answers later
-        (subst (λ (k : State). NearAt (with_reclaimers of by) [] (with_further puts weight s (put (record st { links = set st.links l new }) s (of old, r))).0 k) (sym ends.is) ends.near)
+        ends.near
         (ap (λ (hs : List ℕ). map {B = T × R} (λ n. (of n, by n)) hs) none ∙ ends.gone) refl)
 
     not_refused : (found : Option ℕ) (events : List Event) → MakesFor (retire_old puts weight s new r (Ok (held_value of found)) (record st { links = set st.links l new }, [])).0 st before (Swap s l new r) events → no_guard st s ≡ None → AreEventsOf st before (Swap s l new r) events

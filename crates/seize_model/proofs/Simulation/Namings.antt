@@ -1,6 +1,7 @@
 -- Each list of calls has a naming under which each call in turn is a list of events, whatever the values are.
-use Rattle.std.proofs.Common.{◌≡◌, ℕ, zero, suc, ◌+◌, ◌≤◌, List, [], ◌∷◌, ◌++◌, length, get_or, Option, Some, None, option_to_list, refl, ◌∙◌, ap, arith}
+use Rattle.std.proofs.Common.{◌≡◌, ℕ, zero, suc, ◌+◌, ◌≤◌, List, [], ◌∷◌, ◌++◌, length, get_or, Option, Some, None, option_to_list, refl, sym, ◌∙◌, ap, arith}
 use Rattle.std.specs.List.{All, slice_get}
+use Rattle.std.proofs.lemmas.List.{length-map}
 use Rattle.seize_machine.specs.Machine.State as machine
 use Rattle.seize_machine.specs.Machine.Event.{Event, Begin, ExchangeLink}
 use Rattle.seize_machine.specs.declared.machine.event.Job.TheVariants.{Retire as RetireJob}
@@ -10,16 +11,16 @@ use Rattle.seize_model.specs.Waiting.State as waiting
 use Rattle.seize_model.specs.Waiting.State.{model_slot, retired_at}
 use Rattle.seize_model.specs.Waiting.Calls.{model_link}
 use Rattle.seize_model.specs.Waiting.Lists.{Call, Retire, Protect, Swap, step}
-use Rattle.seize_model.specs.Agreement.Shows.{ShowsState}
+use Rattle.seize_model.specs.Agreement.Shows.{held_value, ShowsState}
 use Rattle.seize_machine.specs.Machine.History.{handed}
 use Rattle.seize_model.specs.Agreement.Statement.{HasLink, IsRun, AreRuns, AgreementAnew}
-use Rattle.seize_model.proofs.WaitingSets.LinkCounts.{step_links}
 use Rattle.seize_model.proofs.Simulation.Names.{Holds}
 use Rattle.seize_model.proofs.Simulation.Calls.{HoldsOwn, agrees_where}
 use Rattle.seize_model.proofs.Simulation.Pairs.{pair_of, number_of}
 use Rattle.seize_model.proofs.Simulation.Renaming.{AgreeBelow, past, past_state, map_same, stand_same, shows_same}
 use Rattle.seize_model.proofs.Simulation.Descendants.{Comes, all_at, new_naming, new_naming_below, new_naming_names}
 use Rattle.seize_model.specs.Waiting.Further.{Lighter}
+use Rattle.seize_model.proofs.Simulation.Plays.{played_links}
 
 -- The roots of a call: the values that wait or are retired, and those that the call retires or puts into a link.
 
@@ -34,11 +35,12 @@ own_values st (Retire s v r) = (v, r) ∷ []
 own_values st (Swap s l new r) = with_reclaimer r new ++ with_reclaimer r (model_link st l)
 own_values st _ = []
 
--- the roots of three kinds: the call's own, those of a slot's batch and those of a retired batch
+-- the roots of four kinds: the call's own, what was left, those of a slot's batch and those of a retired batch
 abbrev pub root_of : {T R : Type 0} → waiting.ModelState T R → List (T × R) → ℕ → ℕ → Option (T × R)
 root_of st own zero i = slice_get own i
-root_of st own (suc zero) i = slice_get (model_slot st (pair_of i).0).batch (pair_of i).1
-root_of st own (suc (suc kind)) i = slice_get (retired_at st (pair_of i).0) (pair_of i).1
+root_of st own (suc zero) i = slice_get st.rest i
+root_of st own (suc (suc zero)) i = slice_get (model_slot st (pair_of i).0).batch (pair_of i).1
+root_of st own (suc (suc (suc kind))) i = slice_get (retired_at st (pair_of i).0) (pair_of i).1
 
 abbrev pub roots : {T R : Type 0} → waiting.ModelState T R → List (T × R) → ℕ → Option (T × R)
 roots st own n = root_of st own (pair_of n).0 (pair_of n).1
@@ -48,8 +50,9 @@ root_comes puts st own kind i v e = (0, (number_of kind i).0, ap (λ (p : ℕ ×
 
 roots_hold : {T R : Type 0} (puts : R → T → List T) (st : waiting.ModelState T R) (own : List (T × R)) → Holds T R (Comes puts (roots st own)) st
 roots_hold {T} {R} puts st own = record {
-  batches = λ s. all_at (Comes puts (roots st own)) (model_slot st s).batch (λ i v e. root_comes puts st own 1 (number_of s i).0 v (ap (λ (p : ℕ × ℕ). slice_get (model_slot st p.0).batch p.1) (number_of s i).1 ∙ e));
-  retired = λ b. all_at (Comes puts (roots st own)) (retired_at st b) (λ i v e. root_comes puts st own 2 (number_of b i).0 v (ap (λ (p : ℕ × ℕ). slice_get (retired_at st p.0) p.1) (number_of b i).1 ∙ e));
+  batches = λ s. all_at (Comes puts (roots st own)) (model_slot st s).batch (λ i v e. root_comes puts st own 2 (number_of s i).0 v (ap (λ (p : ℕ × ℕ). slice_get (model_slot st p.0).batch p.1) (number_of s i).1 ∙ e));
+  retired = λ b. all_at (Comes puts (roots st own)) (retired_at st b) (λ i v e. root_comes puts st own 3 (number_of b i).0 v (ap (λ (p : ℕ × ℕ). slice_get (retired_at st p.0) p.1) (number_of b i).1 ∙ e));
+  rest = all_at (Comes puts (roots st own)) st.rest (λ i v e. root_comes puts st own 1 i v e);
 }
 
 own_holds : {T R : Type 0} (puts : R → T → List T) (st : waiting.ModelState T R) (call : Call T R) → HoldsOwn (Comes puts (roots st (own_values st call))) st call
@@ -115,9 +118,12 @@ calls_anew {T} {R} puts weight lighter bound of st before (call ∷ calls) links
     let one : (other : ℕ → T) × AgreeBelow (bound + past_state before) of other × IsRun T R other call st before (step puts weight st call)
     = call_anew puts weight lighter (bound + past_state before) of st before call (links 0 call (omega arith)) shows (omega arith) in
     let run : IsRun T R one.0 call st before (step puts weight st call) = one.2 in
+    let many : length (step puts weight st call).1.0.links ≡ length st.links
+    = ap length (sym run.shows.links) ∙ length-map run.later.links (held_value one.0) ∙ played_links st.size run.events before run.later run.answers run.legal
+    ∙ sym (length-map before.links (held_value of)) ∙ ap length shows.links in
     let rest : (other : ℕ → T) × AgreeBelow (bound + past_state before + past (handed run.answers) + past_first run.events) one.0 other × ShowsState T R other (step puts weight st call).1.0 run.later × AreRuns puts weight other (step puts weight st call).1.0 run.later calls
     = calls_anew puts weight lighter (bound + past_state before + past (handed run.answers) + past_first run.events) one.0 (step puts weight st call).1.0 run.later calls
-    (λ k d h. still_linked st (step puts weight st call).1.0 (get_or calls k d) (step_links puts weight st call) (links (suc k) d (omega arith))) run.shows in
+    (λ k d h. still_linked st (step puts weight st call).1.0 (get_or calls k d) many (links (suc k) d (omega arith))) run.shows in
     let same : AgreeBelow (bound + past_state before) of rest.0 = λ n h. rest.1 n (omega arith) ∙ one.1 n h in (
       rest.0,
       λ n h. same n (omega arith),

@@ -9,7 +9,7 @@ use Rattle.seize_model.specs.Agreement.Shows.{held_value, head_of, ShowsSlot, Sh
 
 -- so many free slots, no retired batch, and what these numbers in the links stand for
 abbrev pub free_slots : {T R : Type 0} → (ℕ → T) → ℕ → ℕ → List (Option ℕ) → ModelState T R
-free_slots of size slots links = record { size = size; slots = replicate slots unmade_slot; retired = []; links = map (held_value of) links }
+free_slots of size slots links = record { size = size; slots = replicate slots unmade_slot; retired = []; links = map (held_value of) links; rest = [] }
 
 default_at : {X : Type 0} (n i : ℕ) (d : X) → get_or (replicate n d) i d ≡ d
 default_at zero i d = refl
@@ -48,6 +48,7 @@ opened_shown T R of size slots links few = record {
   values = λ b. refl;
   counts = λ b. ap (λ (k : ℕ). pos k) (sym (none_waits T R b slots));
   links = refl;
+  rest = refl;
 }
   where
     as_many : length (replicate slots (unmade_slot {T = T} {R = R})) ≡ slots
@@ -60,6 +61,7 @@ opened_shown_with {T} {R} of by size slots links = record {
       ap (λ (x : machine.Slot). map (λ n. (of n, by n)) x.batch) (default_at slots s machine.no_slot)
       ∙ sym (ap (λ (x : ModelSlot T R). x.batch) (default_at slots s unmade_slot));
   retired = λ b. refl;
+  rest = refl;
 }
 
 empty_links : {T : Type 0} (of : ℕ → T) (links : ℕ) → map (held_value of) (replicate links None) ≡ replicate links None
@@ -68,5 +70,5 @@ empty_links of (suc links) = ap (λ (l : List (Option _)). None ∷ l) (empty_li
 
 pub new_shown : {T R : Type 0} (of : ℕ → T) (size links : ℕ) → ShowsState T R of (new size links) (opening 0 (replicate links None))
 new_shown {T} {R} of size links =
-    subst (λ l. ShowsState T R of (record { size = size; slots = []; retired = []; links = l }) (opening 0 (replicate links None)))
+    subst (λ l. ShowsState T R of (record { size = size; slots = []; retired = []; links = l; rest = [] }) (opening 0 (replicate links None)))
     (empty_links of links) (opened_shown T R of size 0 (replicate links None) (omega arith))

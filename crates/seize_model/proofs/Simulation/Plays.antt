@@ -1,12 +1,12 @@
 -- Lists of legal events: their first events, and what two lists do one after the other.
-use Rattle.std.proofs.Common.{◌≡◌, ℕ, List, [], ◌∷◌, ◌++◌, Option, Some, None, refl, sym, ◌∙◌, ap, subst, append_assoc, option_to_list}
+use Rattle.std.proofs.Common.{◌≡◌, ℕ, List, [], ◌∷◌, ◌++◌, length, Option, Some, None, refl, sym, ◌∙◌, ap, subst, append_assoc, option_to_list}
 use Rattle.std.proofs.lemmas.List.Concat.{flat_map-cons}
 use Rattle.seize_machine.specs.Machine.State.{State}
 use Rattle.seize_machine.specs.Machine.Event.{Event}
 use Rattle.seize_machine.specs.Machine.Next.{next}
 use Rattle.seize_machine.specs.Machine.History.{Timed, at_size, Legal, handed_value, handed}
 use Rattle.seize_machine.specs.declared.machine.event.Answer.{Answer}
-use Rattle.seize_machine.proofs.Facts.{some_is, no_event, one_event, joined, first_event}
+use Rattle.seize_machine.proofs.Facts.{some_is, no_event, one_event, joined, first_event, step_of, links_length}
 use Rattle.seize_model.specs.Agreement.Play.{play, with_answer, PlaysAreLegal}
 use Rattle.seize_model.specs.Agreement.Events.{ArePutBy}
 
@@ -86,14 +86,22 @@ split_of size st (e ∷ es) fs end answers h =
       all = one.all ∙ ap (λ (l : List Answer). one.answer ∷ l) rest.all;
     }
 
--- what the first of two lists puts
-pub put_first : {T R : Type 0} (puts : R → T → List T) (of : ℕ → T) (by : ℕ → R) (size : ℕ) (st middle : State) (es fs : List Event) (first last : List Answer) → play size st es ≡ Some (middle, first)
-    → ArePutBy puts of by (es ++ fs) (first ++ last) → ArePutBy puts of by es first
-put_first puts of by size st middle [] fs first last h put = tt
-put_first puts of by size st middle (e ∷ es) fs first last h put =
+-- there are as many links after them
+pub played_links : (size : ℕ) (events : List Event) (st later : State) (answers : List Answer) → play size st events ≡ Some (later, answers) → length later.links ≡ length st.links
+played_links size [] st later answers h = ap (λ (x : State). length x.links) (play_none size st later answers h).0
+played_links size (e ∷ es) st later answers h =
+    let one : First size st e es later answers = first_of size st e es later answers h in
+    played_links size es one.later later one.rest one.legal ∙ links_length size st e (one.later, one.answer) (step_of size st e (one.later, one.answer) one.step)
+
+-- what each of two lists puts
+pub put_parts : {T R : Type 0} (puts : R → T → List T) (of : ℕ → T) (by : ℕ → R) (size : ℕ) (st middle : State) (es fs : List Event) (first last : List Answer) → play size st es ≡ Some (middle, first)
+    → ArePutBy puts of by (es ++ fs) (first ++ last) → ArePutBy puts of by es first × ArePutBy puts of by fs last
+put_parts puts of by size st middle [] fs first last h put = (tt, subst (λ (l : List Answer). ArePutBy puts of by fs (l ++ last)) (play_none size st middle first h).1 put)
+put_parts puts of by size st middle (e ∷ es) fs first last h put =
     let one : First size st e es middle first = first_of size st e es middle first h in
     let all : ArePutBy puts of by (e ∷ (es ++ fs)) (one.answer ∷ (one.rest ++ last)) = subst (λ (l : List Answer). ArePutBy puts of by (e ∷ (es ++ fs)) (l ++ last)) one.all put in
-    subst (λ (l : List Answer). ArePutBy puts of by (e ∷ es) l) (sym one.all) (all.0, put_first puts of by size one.later middle es fs one.rest last one.legal all.1)
+    let rest : ArePutBy puts of by es one.rest × ArePutBy puts of by fs last = put_parts puts of by size one.later middle es fs one.rest last one.legal all.1 in
+    (subst (λ (l : List Answer). ArePutBy puts of by (e ∷ es) l) (sym one.all) (all.0, rest.0), rest.1)
 
 -- what is played is a legal list of the machine
 legal_of : (size : ℕ) (events : List Event) (st later : State) (answers : List Answer) → play size st events ≡ Some (later, answers) → Legal next st (at_size size events) answers later

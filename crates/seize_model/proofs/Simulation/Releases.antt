@@ -52,11 +52,11 @@ is_made batches b n e = go (in_or_past b (length batches))
         absurd (omega (arith, ints))
 
 -- The first batch of the walk is counted down.
-pub near_less : {T R X : Type 0} (of : Naming T R X) (b : ℕ) (walk : List ℕ) (st : waiting.ModelState T R) (slots : List machine.Slot) (heads : List Head) (batches : List Batch) (links : List (Option ℕ))
-    → Near of (b ∷ walk) st slots heads batches links → has b walk ≡ false
+pub near_less : {T R X : Type 0} (of : Naming T R X) (b : ℕ) (walk : List ℕ) (st : waiting.ModelState T R) (slots : List machine.Slot) (heads : List Head) (batches : List Batch) (links : List (Option ℕ)) (rest : List ℕ)
+    → Near of (b ∷ walk) st slots heads batches links rest → has b walk ≡ false
     → (b < length batches) × ((get_or batches b no_batch).count -ℤ pos 1 ≡ pos (count_by (waits_for b) st.slots))
-    × Near of walk st slots heads (batch_with batches b false (pos (count_by (waits_for b) st.slots))) links
-near_less {T} {R} of b walk st slots heads batches links n first =
+    × Near of walk st slots heads (batch_with batches b false (pos (count_by (waits_for b) st.slots))) links rest
+near_less {T} {R} of b walk st slots heads batches links rest n first =
     let none : occ b walk ≡ 0 = has_none b walk first in
     let own : one (b == b) ≡ 1 = grind arith in
     let was : count_by (waits_for b) st.slots + occ b (b ∷ walk) ≡ count_by (waits_for b) st.slots + 1 = omega arith in
@@ -75,6 +75,7 @@ near_less {T} {R} of b walk st slots heads batches links n first =
         values = λ i. values_kept batches b shown (λ k. Denote of k (retired_at st i)) refl i (n.values i);
         counts = counts_change batches b shown (λ i. count_by (waits_for i) st.slots + occ i (b ∷ walk)) (λ i. count_by (waits_for i) st.slots + occ i walk) n.counts there now (λ i other. other_count b i walk (count_by (waits_for i) st.slots) other);
         links_are = n.links_are;
+        rest_is = n.rest_is;
       },
     )
   where
@@ -95,15 +96,15 @@ near_less {T} {R} of b walk st slots heads batches links n first =
             subst (λ (k : Batch). P k.values) (before ∙ sym past) p
 
 -- what both sides have once batch b with count k was looked at: it is gone where z says so
-abbrev pub BothGone : {T R X : Type 0} → Naming T R X → ℕ → List ℕ → List machine.Slot → List Head → List Batch → List (Option ℕ) → ℕ → Bool → StateAndGone T R → Type 0
-BothGone {T} {R} of b walk slots heads batches links k z o =
-    Near of walk o.0 slots heads (batch_with batches b z (pos k)) links × Denote of (if z then (get_or batches b no_batch).values else []) o.1
+abbrev pub BothGone : {T R X : Type 0} → Naming T R X → ℕ → List ℕ → List machine.Slot → List Head → List Batch → List (Option ℕ) → List ℕ → ℕ → Bool → StateAndGone T R → Type 0
+BothGone {T} {R} of b walk slots heads batches links rest k z o =
+    Near of walk o.0 slots heads (batch_with batches b z (pos k)) links rest × Denote of (if z then (get_or batches b no_batch).values else []) o.1
 
 -- A batch that nothing walks is gone if its count is 0.
-pub near_release : {T R X : Type 0} (of : Naming T R X) (b : ℕ) (walk : List ℕ) (st : waiting.ModelState T R) (slots : List machine.Slot) (heads : List Head) (batches : List Batch) (links : List (Option ℕ))
-    → Near of walk st slots heads batches links → b < length batches → has b walk ≡ false
-    → BothGone of b walk slots heads batches links (count_by (waits_for b) st.slots) (count_by (waits_for b) st.slots == 0) (release st b)
-near_release {T} {R} of b walk st slots heads batches links n there first =
+pub near_release : {T R X : Type 0} (of : Naming T R X) (b : ℕ) (walk : List ℕ) (st : waiting.ModelState T R) (slots : List machine.Slot) (heads : List Head) (batches : List Batch) (links : List (Option ℕ)) (rest : List ℕ)
+    → Near of walk st slots heads batches links rest → b < length batches → has b walk ≡ false
+    → BothGone of b walk slots heads batches links rest (count_by (waits_for b) st.slots) (count_by (waits_for b) st.slots == 0) (release st b)
+near_release {T} {R} of b walk st slots heads batches links rest n there first =
     go (count_by (waits_for b) st.slots == 0) (is_kept st b) (any_counts (waits_for b) st.slots)
   where
     k : ℕ
@@ -119,7 +120,7 @@ near_release {T} {R} of b walk st slots heads batches links n there first =
     as_was = set-get_or st.retired b []
 
     go : (z kept : Bool) → kept ≡ not z
-        → BothGone of b walk slots heads batches links k z (if kept then (st, []) else (record st { retired = set st.retired b [] }, retired_at st b))
+        → BothGone of b walk slots heads batches links rest k z (if kept then (st, []) else (record st { retired = set st.retired b [] }, retired_at st b))
     go true false e = (
       record {
         numbers = n.numbers;
@@ -130,6 +131,7 @@ near_release {T} {R} of b walk st slots heads batches links n there first =
         values = values_change of st.retired batches b [] (record { values = []; count = pos k }) within n.retired n.values refl;
         counts = counts_change batches b (record { values = []; count = pos k }) (λ i. count_by (waits_for i) st.slots + occ i walk) (λ i. count_by (waits_for i) st.slots + occ i walk) n.counts there same_count (λ i other. refl);
         links_are = n.links_are;
+        rest_is = n.rest_is;
       },
       n.values b,
     )
@@ -144,6 +146,7 @@ near_release {T} {R} of b walk st slots heads batches links n there first =
             (values_change of st.retired batches b (retired_at st b) (record { values = (get_or batches b no_batch).values; count = pos k }) within n.retired n.values (n.values b) i);
         counts = counts_change batches b (record { values = (get_or batches b no_batch).values; count = pos k }) (λ i. count_by (waits_for i) st.slots + occ i walk) (λ i. count_by (waits_for i) st.slots + occ i walk) n.counts there same_count (λ i other. refl);
         links_are = n.links_are;
+        rest_is = n.rest_is;
       },
       refl,
     )

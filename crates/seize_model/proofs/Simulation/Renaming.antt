@@ -15,9 +15,9 @@ abbrev pub past_by : {X : Type 0} → (X → List ℕ) → List X → ℕ
 past_by f [] = 0
 past_by f (x ∷ xs) = past (f x) + past_by f xs
 
--- past each number that stands in a slot, a retired batch or a link
+-- past each number that stands in a slot, a retired batch or a link, or that was left
 abbrev pub past_state : machine.State → ℕ
-past_state ms = past_by (λ (slot : machine.Slot). slot.batch) ms.slots + past_by (λ (b : machine.Batch). b.values) ms.batches + past_by (λ (x : Option ℕ). option_to_list x) ms.links
+past_state ms = past_by (λ (slot : machine.Slot). slot.batch) ms.slots + past_by (λ (b : machine.Batch). b.values) ms.batches + past_by (λ (x : Option ℕ). option_to_list x) ms.links + past ms.rest
 
 -- what an element holds is below what is past all
 past_at : {X : Type 0} (f : X → List ℕ) (xs : List X) (i : ℕ) (d : X) → f d ≡ [] → past (f (get_or xs i d)) ≤ past_by f xs
@@ -45,7 +45,7 @@ held_same bound of other (Some n ∷ links) same h =
 
 pub shows_same : {T R : Type 0} (bound : ℕ) (of other : ℕ → T) (st : waiting.ModelState T R) (ms : machine.State) → AgreeBelow bound of other → past_state ms ≤ bound → ShowsState T R of st ms → ShowsState T R other st ms
 shows_same {T} {R} bound of other st ms same h shows =
-    shows_by other (contents of) st ms (near_of of st ms shows) batches values (held_same bound of other ms.links same (omega arith) ∙ shows.links)
+    shows_by other (contents of) st ms (near_of of st ms shows) batches values (held_same bound of other ms.links same (omega arith) ∙ shows.links) (stand_same bound of other ms.rest st.rest same (omega arith) shows.rest)
   where
     batches : (s : ℕ) → ShowsValues other (machine.slot_at ms s).batch (waiting.model_slot st s).batch
     batches s =

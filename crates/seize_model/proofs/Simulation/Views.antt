@@ -14,8 +14,8 @@ contents of = record { link = of; name = of; view = λ v. v.0 }
 near_by : {T R X : Type 0} (of : ℕ → T) (name : Naming T R X) (st : waiting.ModelState T R) (ms : machine.State) → ShowsState T R of st ms
     → ((s : ℕ) → Denote name (machine.slot_at ms s).batch (waiting.model_slot st s).batch)
     → ((b : ℕ) → Denote name (machine.batch_at ms b).values (waiting.retired_at st b))
-    → map (held_value name.link) ms.links ≡ st.links → NearAt name [] st ms
-near_by of name st ms h batches values links = record {
+    → map (held_value name.link) ms.links ≡ st.links → Denote name ms.rest st.rest → NearAt name [] st ms
+near_by of name st ms h batches values links rest = record {
   numbers = h.numbers;
   as_many = h.slots;
   slot = λ s.
@@ -26,13 +26,14 @@ near_by of name st ms h batches values links = record {
   values = values;
   counts = λ b. h.counts b ∙ ap (λ (n : ℕ). pos n) (omega arith);
   links_are = links;
+  rest_is = rest;
 }
 
 pub shows_by : {T R X : Type 0} (of : ℕ → T) (name : Naming T R X) (st : waiting.ModelState T R) (ms : machine.State) → NearAt name [] st ms
     → ((s : ℕ) → ShowsValues of (machine.slot_at ms s).batch (waiting.model_slot st s).batch)
     → ((b : ℕ) → ShowsValues of (machine.batch_at ms b).values (waiting.retired_at st b))
-    → map (held_value of) ms.links ≡ st.links → ShowsState T R of st ms
-shows_by of name st ms h batches values links = record {
+    → map (held_value of) ms.links ≡ st.links → ShowsValues of ms.rest st.rest → ShowsState T R of st ms
+shows_by of name st ms h batches values links rest = record {
   numbers = h.numbers;
   slots = h.as_many;
   slot = λ s.
@@ -43,13 +44,14 @@ shows_by of name st ms h batches values links = record {
   values = values;
   counts = λ b. h.counts b ∙ ap (λ (n : ℕ). pos n) (omega arith);
   links = links;
+  rest = rest;
 }
 
 pub near_of : {T R : Type 0} (of : ℕ → T) (st : waiting.ModelState T R) (ms : machine.State) → ShowsState T R of st ms → NearAt (contents of) [] st ms
-near_of of st ms h = near_by of (contents of) st ms h (λ s. (h.slot s).batch) h.values h.links
+near_of of st ms h = near_by of (contents of) st ms h (λ s. (h.slot s).batch) h.values h.links h.rest
 
 pub shows_of : {T R : Type 0} (of : ℕ → T) (st : waiting.ModelState T R) (ms : machine.State) → NearAt (contents of) [] st ms → ShowsState T R of st ms
-shows_of of st ms h = shows_by of (contents of) st ms h (λ s. (h.slot s).batch) h.values h.links_are
+shows_of of st ms h = shows_by of (contents of) st ms h (λ s. (h.slot s).batch) h.values h.links_are h.rest_is
 
 -- numbers stand for values with their reclaimers
 abbrev pub with_reclaimers : {T R : Type 0} → (ℕ → T) → (ℕ → R) → Naming T R (T × R)
@@ -74,12 +76,12 @@ pub near_with : {T R : Type 0} (of : ℕ → T) (by : ℕ → R) (st : waiting.M
     → ShowsState T R of st ms → ShowsReclaimers T R of by st ms → NearAt (with_reclaimers of by) [] st ms
 near_with of by st ms h r =
     near_by of (with_reclaimers of by) st ms h
-    (λ s. denote_for of by _ _ (r.batches s)) (λ b. denote_for of by _ _ (r.retired b)) h.links
+    (λ s. denote_for of by _ _ (r.batches s)) (λ b. denote_for of by _ _ (r.retired b)) h.links (denote_for of by _ _ r.rest)
 
 pub shows_with : {T R : Type 0} (of : ℕ → T) (by : ℕ → R) (st : waiting.ModelState T R) (ms : machine.State)
     → NearAt (with_reclaimers of by) [] st ms → ShowsState T R of st ms × ShowsReclaimers T R of by st ms
 shows_with of by st ms h = (
   shows_by of (with_reclaimers of by) st ms h
-      (λ s. stand_of of by _ _ (h.slot s).batch) (λ b. stand_of of by _ _ (h.values b)) h.links_are,
-  record { batches = λ s. stand_for of by _ _ (h.slot s).batch; retired = λ b. stand_for of by _ _ (h.values b) },
+      (λ s. stand_of of by _ _ (h.slot s).batch) (λ b. stand_of of by _ _ (h.values b)) h.links_are (stand_of of by _ _ h.rest_is),
+  record { batches = λ s. stand_for of by _ _ (h.slot s).batch; retired = λ b. stand_for of by _ _ (h.values b); rest = stand_for of by _ _ h.rest_is },
 )

@@ -1,25 +1,26 @@
 -- A parting and a retirement within a call, on both sides.
-use Rattle.std.proofs.Common.{◌≡◌, ℕ, ◌<◌, ◌≤◌, pos, ◌-ℤ◌, Bool, true, false, not, ◌==◌, if◌then◌else◌, nat_le, max, List, [], ◌∷◌, ◌++◌, length, map, get_or, set, None, refl, sym, ◌∙◌, ap, subst, arith, length-append, append_assoc}
+use Rattle.std.proofs.Common.{◌≡◌, ℕ, ◌<◌, ◌≤◌, pos, ◌-ℤ◌, Bool, true, false, not, ◌==◌, if◌then◌else◌, nat_le, max, List, [], ◌∷◌, ◌++◌, length, map, get_or, set, None, refl, sym, ◌∙◌, ap, subst, arith, append_assoc}
 use Rattle.std.specs.List.{count_by}
 use Rattle.std.proofs.lemmas.List.Concat.{flat_map-cons}
-use Rattle.std.proofs.lemmas.List.{get_or-set_same, length-set, length-map}
+use Rattle.std.proofs.lemmas.List.{get_or-set_same, length-set}
 use Rattle.seize_machine.specs.Machine.State as machine
 use Rattle.seize_machine.specs.Machine.State.{State, Batch, Mark, Rest, has, are_distinct, no_batch}
 use Rattle.seize_machine.specs.Machine.Event.{SubCount}
 use Rattle.seize_model.specs.Waiting.State as waiting
 use Rattle.seize_model.specs.Waiting.State.{model_slot, waits_for, is_kept}
-use Rattle.seize_model.specs.Waiting.Attempt.{StateAndGone, with_gone, release, release_all, attempt, put, with_batch_value}
+use Rattle.seize_model.specs.Waiting.Attempt.{StateAndGone, with_gone, release, release_all, attempt, is_full, attempt_if_full, put, with_batch_value}
 use Rattle.seize_model.specs.Waiting.Further.{further, put_by}
 use Rattle.seize_machine.proofs.Facts.{and_true, not_true}
 use Rattle.seize_model.proofs.Simulation.Paths.{Carried}
 use Rattle.seize_model.proofs.Simulation.Determinism.{only_sub}
 use Rattle.seize_machine.proofs.Facts.{after_put as put_place}
-use Rattle.seize_model.proofs.Simulation.Events.{busy, at_rest, set_twice, sub_step, with_count}
-use Rattle.seize_model.proofs.Simulation.Coupling.{Near, NearAt, near_set, Denote, CoupledSlot, Naming}
+use Rattle.seize_model.proofs.Simulation.Events.{busy, at_rest, sub_step, with_count}
+use Rattle.seize_model.proofs.Simulation.Coupling.{Near, NearAt, Denote, CoupledSlot, Naming}
 use Rattle.seize_model.proofs.Simulation.Releases.{near_less, near_release, BothGone, batch_with}
 use Rattle.seize_model.proofs.Simulation.Names.{Holds, HoldsAfter, holds_release, holds_appended}
-use Rattle.seize_model.proofs.Simulation.Work.{Handing, hands_on, Does, nothing_done, attempt_does, own_slot, in_slots, denote_append}
+use Rattle.seize_model.proofs.Simulation.Work.{Handing, hands_on, Does, nothing_done, attempt_does, own_slot, in_slots, near_batch, denote_append, denote_length}
 use Rattle.seize_model.proofs.Cases.{either}
+use Rattle.seize_model.proofs.Counts.{set_twice}
 
 pub further_append : {T R : Type 0} (puts : R → T → List T) (xs ys : List (T × R)) → further puts (xs ++ ys) ≡ further puts xs ++ further puts ys
 further_append puts [] ys = refl
@@ -61,17 +62,17 @@ walk_does {T} {R} puts of P K size guards st base s batch (b ∷ walk) queue hs 
     let first : has b walk ≡ false = not_true _ d.0 in
     let k : ℕ = count_by (waits_for b) st.slots in
     let slots : List machine.Slot = (at_rest base s batch).slots in
-    let less : (b < length base.batches) × ((get_or base.batches b no_batch).count -ℤ pos 1 ≡ pos k) × Near of walk st slots base.heads (batch_with base.batches b false (pos k)) base.links
-    = near_less of b walk st slots base.heads base.batches base.links n first in
+    let less : (b < length base.batches) × ((get_or base.batches b no_batch).count -ℤ pos 1 ≡ pos k) × Near of walk st slots base.heads (batch_with base.batches b false (pos k)) base.links base.rest
+    = near_less of b walk st slots base.heads base.batches base.links base.rest n first in
     let there : b < length (batch_with base.batches b false (pos k)) = rw (length-set base.batches b (record { values = (get_or base.batches b no_batch).values; count = pos k })) less.0 in
-    let gone : BothGone of b walk slots base.heads (batch_with base.batches b false (pos k)) base.links k (k == 0) (release st b)
-    = near_release of b walk st slots base.heads (batch_with base.batches b false (pos k)) base.links less.2 there first in
+    let gone : BothGone of b walk slots base.heads (batch_with base.batches b false (pos k)) base.links base.rest k (k == 0) (release st b)
+    = near_release of b walk st slots base.heads (batch_with base.batches b false (pos k)) base.links base.rest less.2 there first in
     let own : get_or (batch_with base.batches b false (pos k)) b no_batch ≡ record { values = (get_or base.batches b no_batch).values; count = pos k }
     = get_or-set_same base.batches b (record { values = (get_or base.batches b no_batch).values; count = pos k }) no_batch less.0 in
     let set_there : batch_with (batch_with base.batches b false (pos k)) b (k == 0) (pos k) ≡ (with_count base b (pos k)).batches
     = ap (λ (x : Batch). set (batch_with base.batches b false (pos k)) b (record { values = if k == 0 then [] else x.values; count = pos k })) own ∙ set_twice base.batches b (record { values = (get_or base.batches b no_batch).values; count = pos k }) (record { values = if k == 0 then [] else (get_or base.batches b no_batch).values; count = pos k }) in
-    let near : Near of walk (release st b).0 slots base.heads (with_count base b (pos k)).batches base.links
-    = subst (λ (l : List Batch). Near of walk (release st b).0 slots base.heads l base.links) set_there gone.0 in
+    let near : Near of walk (release st b).0 slots base.heads (with_count base b (pos k)).batches base.links base.rest
+    = subst (λ (l : List Batch). Near of walk (release st b).0 slots base.heads l base.links base.rest) set_there gone.0 in
     let given : List ℕ = if k == 0 then (get_or base.batches b no_batch).values else [] in
     let stand : Denote of (if k == 0 then (get_or base.batches b no_batch).values else []) (release st b).1
     = subst (λ (x : Batch). Denote of (if k == 0 then x.values else []) (release st b).1) own gone.1 in
@@ -89,12 +90,31 @@ walk_does {T} {R} puts of P K size guards st base s batch (b ∷ walk) queue hs 
 
 -- Retirements.
 
+-- an attempt, if the batch is full
+pub full_does : {T R X : Type 0} (puts : R → T → List T) (of : Naming T R X) (P : T × R → Type 0) (K : State → List ℕ → Type 0) (st : waiting.ModelState T R) (base : State) (s : ℕ) (batch queue hs : List ℕ) → Carried puts of P s st.size K
+    → Holds T R P st → NearAt of [] st (at_rest base s batch) → s < length base.slots
+    → K (busy base s batch (put_place st.size (length base.slots) batch) queue) hs → Does puts of K st.size s (model_slot st s).guards queue hs (attempt_if_full st s)
+full_does {T} {R} puts of P K st base s batch queue hs carried holds near h now =
+    go (is_full st.size (model_slot st s).batch) refl
+    (subst (λ k. K (busy base s batch (if nat_le (max 1 st.size) k then Mark 0 (length base.slots) [] else Rest [] []) queue) hs) long now)
+  where
+    long : length batch ≡ length (model_slot st s).batch
+    long = denote_length of batch (model_slot st s).batch (own_slot of st base s batch near h).batch
+
+    go : (t : Bool) → is_full st.size (model_slot st s).batch ≡ t → K (busy base s batch (if t then Mark 0 (length base.slots) [] else Rest [] []) queue) hs
+        → Does puts of K st.size s (model_slot st s).guards queue hs (if t then attempt st s else (st, []))
+    go true e k = attempt_does puts of P K st base s batch queue hs carried holds near h (some st.size (length batch) (length (model_slot st s).batch) long e) k
+      where
+        some : (a b c : ℕ) → b ≡ c → nat_le (max 1 a) c ≡ true → 1 ≤ b
+        some a b c same e = grind arith
+    go false e k = nothing_done puts of K st base s batch queue hs near h k
+
 pub after_put : {T R X : Type 0} (puts : R → T → List T) (of : Naming T R X) (P : T × R → Type 0) (K : State → List ℕ → Type 0) (st : waiting.ModelState T R) (base : State) (s n : ℕ) (v : T × R) (batch queue hs : List ℕ) → Carried puts of P s st.size K
     → Holds T R P st → P v → NearAt of [] st (at_rest base s batch) → s < length base.slots → of.name n ≡ of.view v
     → K (busy base s (batch ++ n ∷ []) (put_place st.size (length base.slots) (batch ++ n ∷ [])) queue) hs → Does puts of K st.size s (model_slot st s).guards queue hs (put st s v)
 after_put {T} {R} puts of P K st base s n v batch queue hs carried holds own_holds near h stands now =
-    go (nat_le (max 1 st.size) (length (model_slot (with_batch_value st s v) s).batch)) refl
-    (subst (λ k. K (busy base s (batch ++ n ∷ []) (if nat_le (max 1 st.size) k then Mark 0 (length base.slots) [] else Rest [] []) queue) hs) long now)
+    subst (λ g. Does puts of K st.size s g queue hs (put st s v)) guards
+    (full_does puts of P K (with_batch_value st s v) base s (batch ++ n ∷ []) queue hs carried (holds_appended P st s v holds own_holds) next_near h now)
   where
     own : CoupledSlot of (model_slot st s) (record { used = true; batch = batch; call = None })
     own = own_slot of st base s batch near h
@@ -106,26 +126,7 @@ after_put {T} {R} puts of P K st base s n v batch queue hs carried holds own_hol
     both = denote_append of batch (n ∷ []) (model_slot st s).batch (v ∷ []) own.batch (ap (λ x. x ∷ []) stands)
 
     next_near : NearAt of [] (with_batch_value st s v) (at_rest base s (batch ++ n ∷ []))
-    next_near = subst (λ (l : List machine.Slot). Near of [] (with_batch_value st s v) l base.heads base.batches base.links) (set_twice base.slots s _ _)
-        (near_set of [] st (at_rest base s batch).slots base.heads base.batches base.links s (record (model_slot st s) { batch = (model_slot st s).batch ++ v ∷ [] }) (record { used = true; batch = batch ++ n ∷ []; call = None }) near within
-        (record { used = own.used; idle = refl; batch = both; free = own.free; owned = own.owned; inactive = own.inactive; once = own.once }) refl refl)
-
-    next_own : CoupledSlot of (model_slot (with_batch_value st s v) s) (record { used = true; batch = batch ++ n ∷ []; call = None })
-    next_own = own_slot of (with_batch_value st s v) base s (batch ++ n ∷ []) next_near h
-
-    long : length (batch ++ n ∷ []) ≡ length (model_slot (with_batch_value st s v) s).batch
-    long = sym (length-map (batch ++ n ∷ []) of.name) ∙ ap length next_own.batch ∙ length-map (model_slot (with_batch_value st s v) s).batch of.view
+    next_near = near_batch of st base s batch (batch ++ n ∷ []) ((model_slot st s).batch ++ v ∷ []) near h both
 
     guards : (model_slot (with_batch_value st s v) s).guards ≡ (model_slot st s).guards
     guards = ap (λ (x : waiting.ModelSlot T R). x.guards) (get_or-set_same st.slots s (record (model_slot st s) { batch = (model_slot st s).batch ++ v ∷ [] }) waiting.unmade_slot within)
-
-    go : (t : Bool) → nat_le (max 1 st.size) (length (model_slot (with_batch_value st s v) s).batch) ≡ t
-        → K (busy base s (batch ++ n ∷ []) (if t then Mark 0 (length base.slots) [] else Rest [] []) queue) hs
-        → Does puts of K st.size s (model_slot st s).guards queue hs (if t then attempt (with_batch_value st s v) s else (with_batch_value st s v, []))
-    go true e k =
-        let some : 1 ≤ length (batch ++ n ∷ []) = omega (arith, length-append batch (n ∷ [])) in
-        subst (λ g. Does puts of K st.size s g queue hs (attempt (with_batch_value st s v) s)) guards
-        (attempt_does puts of P K (with_batch_value st s v) base s (batch ++ n ∷ []) queue hs carried (holds_appended P st s v holds own_holds) next_near h some k)
-    go false e k =
-        subst (λ g. Does puts of K st.size s g queue hs (with_batch_value st s v, [])) guards
-        (nothing_done puts of K (with_batch_value st s v) base s (batch ++ n ∷ []) queue hs next_near h k)

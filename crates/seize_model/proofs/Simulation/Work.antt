@@ -4,26 +4,30 @@ use Rattle.std.specs.List.{count_by, AllByRecursion}
 use Rattle.std.proofs.lemmas.List.Concat.{flat_map-cons}
 use Rattle.std.proofs.lemmas.List.{get_or-set_same, length-set, length-map, map-append}
 use Rattle.std.proofs.Math.ListN.{get_or-map}
-use Rattle.std.proofs.Math.Seq.{get_or-append_seam}
+use Rattle.std.proofs.Math.Seq.{get_or-append_seam, set-append_seam}
 use Rattle.seize_machine.specs.Machine.State as machine
-use Rattle.seize_machine.specs.Machine.State.{State, Head, Batch, Mark, Rest, has, are_distinct, no_batch}
+use Rattle.seize_machine.specs.Machine.State.{State, Head, Batch, Mark, Rest, no_batch}
 use Rattle.seize_model.specs.Waiting.State as waiting
 use Rattle.seize_model.specs.Waiting.State.{model_slot, waits_for}
 use Rattle.seize_model.specs.Waiting.Attempt.{StateAndGone, release, wait_if_active, attempt, gives_up, with_batch_retired, active_slots}
 use Rattle.seize_model.specs.Waiting.Further.{further, put_by}
 use Rattle.seize_model.specs.Agreement.Shows.{head_of}
 use Rattle.seize_model.proofs.Simulation.Paths.{Carried, along}
-use Rattle.seize_model.proofs.Simulation.Events.{busy, at_rest, set_twice, with_gone}
-use Rattle.seize_model.proofs.Simulation.Attempts.{actives, with_front, set_seam, with_waiting, attempts_on, attempts_stop, place_with_waiting}
+use Rattle.seize_model.proofs.Simulation.Events.{busy, at_rest, with_gone}
+use Rattle.seize_model.proofs.Simulation.Attempts.{actives, with_front, with_waiting, attempts_on, attempts_stop, place_with_waiting}
 use Rattle.seize_model.proofs.Simulation.Coupling.{Near, NearAt, near_set, Denote, CoupledSlot, Naming}
 use Rattle.seize_model.proofs.Simulation.Releases.{near_release, BothGone, batch_with}
 use Rattle.seize_model.proofs.Simulation.Detachment.{actives_count, near_waits}
 use Rattle.seize_model.proofs.Simulation.Names.{Holds, holds_detach}
 use Rattle.seize_model.proofs.Cases.{either}
 use Rattle.seize_model.proofs.WaitingSets.Orders.{by_active}
+use Rattle.seize_model.proofs.Counts.{set_twice}
 
 pub denote_append : {T R X : Type 0} (of : Naming T R X) (ns ms : List ℕ) (xs ys : List (T × R)) → Denote of ns xs → Denote of ms ys → Denote of (ns ++ ms) (xs ++ ys)
 denote_append of ns ms xs ys e f = map-append of.name ns ms ∙ ap (λ l. l ++ map of.name ms) e ∙ ap (λ l. map of.view xs ++ l) f ∙ sym (map-append of.view xs ys)
+
+pub denote_length : {T R X : Type 0} (of : Naming T R X) (ns : List ℕ) (xs : List (T × R)) → Denote of ns xs → length ns ≡ length xs
+denote_length of ns xs e = sym (length-map ns of.name) ∙ ap length e ∙ length-map xs of.view
 
 -- Hands.
 
@@ -106,6 +110,16 @@ pub own_slot : {T R X : Type 0} (of : Naming T R X) (st : waiting.ModelState T R
     → CoupledSlot of (model_slot st s) (record { used = true; batch = batch; call = None })
 own_slot {T} {R} of st base s batch n h = subst (λ x. CoupledSlot of (model_slot st s) x) (get_or-set_same base.slots s _ machine.no_slot h) (n.slot s)
 
+-- with another batch on both sides
+pub near_batch : {T R X : Type 0} (of : Naming T R X) (st : waiting.ModelState T R) (base : State) (s : ℕ) (batch new : List ℕ) (values : List (T × R)) → NearAt of [] st (at_rest base s batch) → s < length base.slots → Denote of new values
+    → NearAt of [] (waiting.set_slot st s (record (model_slot st s) { batch = values })) (at_rest base s new)
+near_batch of st base s batch new values n h stand =
+    let own : CoupledSlot of (model_slot st s) (record { used = true; batch = batch; call = None }) = own_slot of st base s batch n h in
+    let within : s < length st.slots = rw (← in_slots of st base s batch n) h in
+    subst (λ (l : List machine.Slot). Near of [] (waiting.set_slot st s (record (model_slot st s) { batch = values })) l base.heads base.batches base.links base.rest) (set_twice base.slots s _ _)
+    (near_set of [] st (at_rest base s batch).slots base.heads base.batches base.links base.rest s (record (model_slot st s) { batch = values }) (record { used = true; batch = new; call = None }) n within
+    (record { used = own.used; idle = refl; batch = stand; free = own.free; owned = own.owned; inactive = own.inactive; once = own.once }) refl refl)
+
 waits_guards : {T R : Type 0} (b : ℕ) (slot : waiting.ModelSlot T R) → (wait_if_active b slot).guards ≡ slot.guards
 waits_guards b slot = by_active (λ x t. x.guards ≡ slot.guards) b slot (λ e. refl) (λ e. refl)
 
@@ -128,7 +142,7 @@ attempt_does {T} {R} puts of P K st base s batch queue hs carried holds n h some
     all = in_heads of st base s batch n
 
     long : length batch ≡ length (model_slot st s).batch
-    long = sym (length-map batch of.name) ∙ ap length own.batch ∙ length-map (model_slot st s).batch of.view
+    long = denote_length of batch (model_slot st s).batch own.batch
 
     active : length (actives 0 base.heads) ≡ active_slots st
     active = ap (λ (l : List Head). length (actives 0 l)) n.heads_are ∙ actives_count 0 st.slots
@@ -150,26 +164,22 @@ attempt_does {T} {R} puts of P K st base s batch queue hs carried holds n h some
         let b : ℕ = length st.retired in
         let won : ℕ = length (actives 0 base.heads) in
         let fresh : Batch = record { values = batch; count = pos won } in
-        let kept : Near of [] (waiting.set_slot st s (record (model_slot st s) { batch = [] })) (set (at_rest base s batch).slots s (record { used = true; batch = []; call = None })) base.heads base.batches base.links
-        = near_set of [] st (at_rest base s batch).slots base.heads base.batches base.links s (record (model_slot st s) { batch = [] }) (record { used = true; batch = []; call = None }) n within
-        (record { used = own.used; idle = refl; batch = refl; free = own.free; owned = own.owned; inactive = own.inactive; once = own.once }) refl refl in
-        let kept_in : Near of [] (waiting.set_slot st s (record (model_slot st s) { batch = [] })) (at_rest base s []).slots base.heads base.batches base.links
-        = subst (λ (l : List machine.Slot). Near of [] (waiting.set_slot st s (record (model_slot st s) { batch = [] })) l base.heads base.batches base.links) (set_twice base.slots s _ _) kept in
-        let waits : (count_by (waits_for b) (with_batch_retired st s).slots ≡ won) × Near of [] (with_batch_retired st s) (at_rest base s []).slots (map (with_front b) base.heads) (base.batches ++ fresh ∷ []) base.links
-        = near_waits of batch (model_slot st s).batch (waiting.set_slot st s (record (model_slot st s) { batch = [] })) (at_rest base s []).slots base.heads base.batches base.links kept_in own.batch in
+        let kept : NearAt of [] (waiting.set_slot st s (record (model_slot st s) { batch = [] })) (at_rest base s []) = near_batch of st base s batch [] [] n h refl in
+        let waits : (count_by (waits_for b) (with_batch_retired st s).slots ≡ won) × Near of [] (with_batch_retired st s) (at_rest base s []).slots (map (with_front b) base.heads) (base.batches ++ fresh ∷ []) base.links base.rest
+        = near_waits of batch (model_slot st s).batch (waiting.set_slot st s (record (model_slot st s) { batch = [] })) (at_rest base s []).slots base.heads base.batches base.links base.rest kept own.batch in
         let last : b < length (base.batches ++ fresh ∷ []) = omega (arith, length-append base.batches (fresh ∷ []), n.retired) in
-        let gone : BothGone of b [] (at_rest base s []).slots (map (with_front b) base.heads) (base.batches ++ fresh ∷ []) base.links won (won == 0) (release (with_batch_retired st s) b)
-        = subst (λ (k : ℕ). BothGone of b [] (at_rest base s []).slots (map (with_front b) base.heads) (base.batches ++ fresh ∷ []) base.links k (k == 0) (release (with_batch_retired st s) b)) waits.0
-        (near_release of b [] (with_batch_retired st s) (at_rest base s []).slots (map (with_front b) base.heads) (base.batches ++ fresh ∷ []) base.links waits.1 last refl) in
+        let gone : BothGone of b [] (at_rest base s []).slots (map (with_front b) base.heads) (base.batches ++ fresh ∷ []) base.links base.rest won (won == 0) (release (with_batch_retired st s) b)
+        = subst (λ (k : ℕ). BothGone of b [] (at_rest base s []).slots (map (with_front b) base.heads) (base.batches ++ fresh ∷ []) base.links base.rest k (k == 0) (release (with_batch_retired st s) b)) waits.0
+        (near_release of b [] (with_batch_retired st s) (at_rest base s []).slots (map (with_front b) base.heads) (base.batches ++ fresh ∷ []) base.links base.rest waits.1 last refl) in
         let place : b ≡ length base.batches = sym n.retired in
         let own_batch : get_or (base.batches ++ fresh ∷ []) b no_batch ≡ fresh = rw place (get_or-append_seam base.batches fresh [] no_batch) in
         let put_there : batch_with (base.batches ++ fresh ∷ []) b (won == 0) (pos won) ≡ (with_waiting base batch).batches
         = ap (λ (x : Batch). set (base.batches ++ fresh ∷ []) b (record { values = if won == 0 then [] else x.values; count = pos won })) own_batch
         ∙ ap (λ (k : ℕ). set (base.batches ++ fresh ∷ []) k (record { values = if won == 0 then [] else batch; count = pos won })) place
-        ∙ set_seam base.batches fresh _ [] in
+        ∙ set-append_seam base.batches fresh [] _ in
         let near : NearAt of [] (release (with_batch_retired st s) b).0 (at_rest (with_waiting base batch) s [])
-        = subst (λ (k : ℕ). Near of [] (release (with_batch_retired st s) b).0 (at_rest base s []).slots (map (with_front k) base.heads) (with_waiting base batch).batches base.links) place
-        (subst (λ (l : List Batch). Near of [] (release (with_batch_retired st s) b).0 (at_rest base s []).slots (map (with_front b) base.heads) l base.links) put_there gone.0) in
+        = subst (λ (k : ℕ). Near of [] (release (with_batch_retired st s) b).0 (at_rest base s []).slots (map (with_front k) base.heads) (with_waiting base batch).batches base.links base.rest) place
+        (subst (λ (l : List Batch). Near of [] (release (with_batch_retired st s) b).0 (at_rest base s []).slots (map (with_front b) base.heads) l base.links base.rest) put_there gone.0) in
         let stand : Denote of (if won == 0 then batch else []) (release (with_batch_retired st s) b).1
         = subst (λ (x : Batch). Denote of (if won == 0 then x.values else []) (release (with_batch_retired st s) b).1) own_batch gone.1 in
         let tried : K (busy (with_waiting base batch) s [] (place_with_waiting base batch) queue) hs

@@ -1,6 +1,6 @@
 -- What an active slot retires waits for the slot itself, so nothing is gone in its flushes and retirements.
-use Rattle.std.proofs.Common.{◌≡◌, ℕ, ◌<◌, Bool, true, false, not, ◌||◌, ◌==◌, if◌then◌else◌, nat_le, max, List, [], ◌∷◌, ◌++◌, length, get_or, set, Option, Some, None, Ok, refl, sym, ◌∙◌, ap, inl, inr, arith}
-use Rattle.std.specs.List.{list_any, count_by}
+use Rattle.std.proofs.Common.{◌≡◌, ℕ, ◌<◌, Bool, true, false, ◌||◌, ◌==◌, if◌then◌else◌, nat_le, max, List, [], ◌∷◌, ◌++◌, length, get_or, set, Option, Some, None, Ok, refl, sym, ◌∙◌, ap, inl, inr, arith}
+use Rattle.std.specs.List.{list_any}
 use Rattle.std.proofs.lemmas.List.{get_or-set_same, get_or_past}
 use Rattle.std.proofs.Math.ListN.{get_or-map}
 use Rattle.seize_table.specs.declared.refusal.Refusal.{Refusal}
@@ -12,7 +12,7 @@ use Rattle.seize_model.specs.Waiting.Calls.{unused, first_refusal, is_free, unle
 use Rattle.seize_model.specs.Waiting.Laws.{FlushLaw, RetireLaw}
 use Rattle.seize_machine.proofs.Facts.{is_true}
 use Rattle.seize_model.proofs.Cases.{either, in_or_past}
-use Rattle.seize_model.proofs.Counts.{any_counts, none_passes}
+use Rattle.seize_model.proofs.Counts.{none_any}
 use Rattle.seize_model.proofs.WaitingSets.Orders.{by_active}
 use Rattle.seize_model.proofs.WaitingSets.FurtherValues.{afterwards-nil}
 
@@ -27,11 +27,8 @@ is_made {T} {R} st s active = elim (in_or_past s (length st.slots)) [
 some_passes : {X : Type 0} (p : X → Bool) (xs : List X) (i : ℕ) (d : X) → p d ≡ false → p (get_or xs i d) ≡ true → list_any p xs ≡ true
 some_passes p xs i d n e = elim (is_true (list_any p xs)) [
   | inl t ↦ t
-  | inr f ↦ absurd (let none : p (get_or xs i d) ≡ false = none_passes p xs i d (zero_of (count_by p xs) (sym (any_counts p xs) ∙ f)) n in let c : false ≡ true = sym none ∙ e in cc)
+  | inr f ↦ absurd (let c : false ≡ true = sym (none_any p xs i d f n) ∙ e in cc)
 ]
-  where
-    zero_of : (k : ℕ) → not (k == 0) ≡ false → k ≡ 0
-    zero_of k h = grind arith
 
 -- the batch waits for the active slot that detached it
 waits_for_own : {T R : Type 0} (st : ModelState T R) (s : ℕ) → has_guard (model_slot st s) ≡ true → is_kept (with_batch_retired st s) (length st.retired) ≡ true

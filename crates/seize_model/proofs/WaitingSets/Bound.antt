@@ -1,18 +1,27 @@
--- Between calls each batch is below the bound.
-use Rattle.std.proofs.Common.{◌≡◌, ◌≢◌, ℕ, ◌+◌, ◌<◌, ◌≤◌, Bool, true, false, ◌||◌, ◌==◌, if◌then◌else◌, nat_lt, nat_le, max, List, [], ◌∷◌, ◌++◌, length, get_or, set, refl, sym, ◌∙◌, ap, subst, ◌⊎◌, inl, inr, arith}
+-- Between calls each batch is below the bound, and so is what was left.
+use Rattle.std.proofs.Common.{◌≡◌, ◌≢◌, ℕ, zero, suc, ◌+◌, ◌*◌, ◌<◌, ◌≤◌, Bool, true, false, ◌||◌, ◌==◌, if◌then◌else◌, nat_lt, nat_le, max, List, [], ◌∷◌, ◌++◌, length, get_or, set, refl, sym, ◌∙◌, ap, subst, ◌⊎◌, inl, inr, arith}
+use Rattle.std.specs.List.{count_by}
+use Rattle.std.proofs.Math.Nat.{le-mul_of_pos_right, mul_comm}
+use Rattle.std.proofs.lemmas.Nat.{mul-le}
 use Rattle.std.proofs.lemmas.List.{length-set, length-map, length-append, get_or-set_same, get_or-set_other, get_or_past}
 use Rattle.std.proofs.lemmas.List.Sums.{count_by-le-length}
 use Rattle.std.proofs.Math.ListN.{get_or-map}
 use Rattle.std.proofs.Math.Seq.{get_or-append_seam}
+use Rattle.seize_machine.proofs.Facts.{one}
 use Rattle.seize_model.specs.declared.kind.Kind.{Kind}
 use Rattle.seize_model.specs.Waiting.State.{ModelSlot, ModelState, model_slot, set_slot, unmade_slot, new, has_guard, is_kept}
-use Rattle.seize_model.specs.Waiting.Attempt.{StateAndGone, release, release_all, attempt, gives_up, active_slots, wait_if_active, with_batch_retired, put, with_batch_value, part}
+use Rattle.seize_model.specs.Waiting.Attempt.{StateAndGone, release, release_all, attempt, gives_up, active_slots, wait_if_active, with_batch_retired, is_full, attempt_if_full, put, with_batch_value, part}
+use Rattle.seize_model.specs.Waiting.Calls.{is_free, least_unused, with_number_in_use, set_guards, rest_and_batch, with_rest_gathered, with_number_free}
 use Rattle.seize_model.specs.Waiting.Lists.{run}
 use Rattle.seize_model.specs.Waiting.Laws.{BoundLaw}
 use Rattle.seize_model.proofs.Cases.{either, in_or_past, or_same}
-use Rattle.seize_model.proofs.Counts.{beside}
+use Rattle.seize_model.proofs.Counts.{beside, count_same, count_set}
 use Rattle.seize_model.proofs.WaitingSets.FurtherValues.{waits_batch}
-use Rattle.seize_model.proofs.WaitingSets.Invariants.{Invariant, run_keeps}
+use Rattle.seize_model.proofs.WaitingSets.Beside.{Ignores, ignores_rest, ignores_many, ignores_count, attempt_beside, put_beside, part_beside}
+use Rattle.seize_model.proofs.WaitingSets.Taken.{with_room, taken_slot, taken_is, taken_none}
+use Rattle.seize_model.proofs.WaitingSets.Refusals.{IsUsed, in_use}
+use Rattle.seize_model.proofs.WaitingSets.Invariants.{Invariant, gives_keep, run_keeps}
+use Rattle.seize_model.proofs.WaitingSets.Tidy.{AreTidy, unmade_tidy, tidy_set, tidy_put, tidy_gathered, tidy_calls}
 
 -- so many slots, this size, and each batch below the bound
 pub record IsBelow {T R : Type 0} (size slots : ℕ) (st : ModelState T R) : Type 0 where
@@ -87,25 +96,27 @@ attempt_below {T} {R} size slots st s e n others = go (gives_up st s) refl
     }
     go false t = release_below size slots (with_batch_retired st s) (length st.retired) (detached_below size slots st s e n others)
 
-put_below : {T R : Type 0} (size slots : ℕ) (st : ModelState T R) (s : ℕ) (v : T × R) → IsBelow size slots st → Stays size slots (put st s v)
-put_below {T} {R} size slots st s v h = go (nat_le (max 1 st.size) (length (model_slot (with_batch_value st s v) s).batch)) refl
+full_below : {T R : Type 0} (size slots : ℕ) (st : ModelState T R) (s : ℕ) → st.size ≡ size → length st.slots ≡ slots → ((i : ℕ) → i ≢ s → length (model_slot st i).batch < max (max 1 size) slots) → Stays size slots (attempt_if_full st s)
+full_below {T} {R} size slots st s e n others = go (is_full st.size (model_slot st s).batch) refl
   where
-    others : (i : ℕ) → i ≢ s → length (model_slot (with_batch_value st s v) i).batch < max (max 1 size) slots
-    others i other = rw (get_or-set_other st.slots s i (record (model_slot st s) { batch = (model_slot st s).batch ++ v ∷ [] }) unmade_slot other) (h.below i)
-
     short : (a b : ℕ) → nat_le (max 1 b) a ≡ false → b ≡ size → a < max (max 1 size) slots
     short a b f same = grind arith
 
-    go : (t : Bool) → nat_le (max 1 st.size) (length (model_slot (with_batch_value st s v) s).batch) ≡ t → (let o : StateAndGone T R = if t then attempt (with_batch_value st s v) s else (with_batch_value st s v, []) in Stays size slots o)
-    go true t = attempt_below size slots (with_batch_value st s v) s h.same_size (length-set st.slots s (record (model_slot st s) { batch = (model_slot st s).batch ++ v ∷ [] }) ∙ h.many) others
+    go : (t : Bool) → is_full st.size (model_slot st s).batch ≡ t → (let o : StateAndGone T R = if t then attempt st s else (st, []) in Stays size slots o)
+    go true t = attempt_below size slots st s e n others
     go false t = record {
-      same_size = h.same_size;
-      many = length-set st.slots s (record (model_slot st s) { batch = (model_slot st s).batch ++ v ∷ [] }) ∙ h.many;
+      same_size = e;
+      many = n;
       below = λ i. elim (or_same i s) [
-        | inl same ↦ rw same (short (length (model_slot (with_batch_value st s v) s).batch) st.size t h.same_size)
+        | inl same ↦ rw same (short (length (model_slot st s).batch) st.size t e)
         | inr other ↦ others i other
       ];
     }
+
+put_below : {T R : Type 0} (size slots : ℕ) (st : ModelState T R) (s : ℕ) (v : T × R) → IsBelow size slots st → Stays size slots (put st s v)
+put_below {T} {R} size slots st s v h =
+    full_below size slots (with_batch_value st s v) s h.same_size (length-set st.slots s (record (model_slot st s) { batch = (model_slot st s).batch ++ v ∷ [] }) ∙ h.many)
+    (λ i other. rw (get_or-set_other st.slots s i (record (model_slot st s) { batch = (model_slot st s).batch ++ v ∷ [] }) unmade_slot other) (h.below i))
 
 -- Calls. One that takes a number may make a slot.
 
@@ -119,39 +130,152 @@ grown size slots st h = subst (λ n. IsBelow size n st) (sym h.many) h
 wider : (a b c : ℕ) → a < max (max 1 b) c → a < max (max 1 b) (c + 1)
 wider a b c h = grind arith
 
-made_below : {T R : Type 0} (size : ℕ) (st : ModelState T R) (kind : Kind) (guards : ℕ) → Grows size st
-    → Grows size (record st { slots = st.slots ++ record { kind = kind; guards = guards; batch = []; order = [] } ∷ [] })
-made_below {T} {R} size st kind guards h = record {
+room_below : {T R : Type 0} (size : ℕ) (st : ModelState T R) (t : Bool) → Grows size st → Grows size (with_room t st)
+room_below size st false h = h
+room_below {T} {R} size st true h = record {
   same_size = h.same_size;
   many = refl;
   below = λ i. at i (or_same i (length st.slots));
 }
   where
-    at : (i : ℕ) → (i ≡ length st.slots) ⊎ (i ≢ length st.slots)
-        → length (get_or (st.slots ++ record { kind = kind; guards = guards; batch = []; order = [] } ∷ []) i unmade_slot).batch < max (max 1 size) (length (st.slots ++ record { kind = kind; guards = guards; batch = []; order = [] } ∷ []))
+    at : (i : ℕ) → (i ≡ length st.slots) ⊎ (i ≢ length st.slots) → length (get_or (st.slots ++ unmade_slot ∷ []) i unmade_slot).batch < max (max 1 size) (length (st.slots ++ unmade_slot ∷ []))
     at i (inl same) =
-        let is : get_or (st.slots ++ record { kind = kind; guards = guards; batch = []; order = [] } ∷ []) i unmade_slot ≡ record { kind = kind; guards = guards; batch = []; order = [] } = rw same (get_or-append_seam st.slots _ [] unmade_slot) in
+        let is : get_or (st.slots ++ unmade_slot ∷ []) i unmade_slot ≡ unmade_slot = rw same (get_or-append_seam st.slots _ [] unmade_slot) in
         rw is (omega arith)
     at i (inr other) =
-        let is : get_or (st.slots ++ record { kind = kind; guards = guards; batch = []; order = [] } ∷ []) i unmade_slot ≡ get_or st.slots i unmade_slot = beside st.slots _ unmade_slot i other in
-        let more : length (st.slots ++ record { kind = kind; guards = guards; batch = []; order = [] } ∷ []) ≡ length st.slots + 1 = length-append st.slots _ in
+        let is : get_or (st.slots ++ unmade_slot ∷ []) i unmade_slot ≡ get_or st.slots i unmade_slot = beside st.slots _ unmade_slot i other in
+        let more : length (st.slots ++ unmade_slot ∷ []) ≡ length st.slots + 1 = length-append st.slots _ in
         rw (is, more) (wider (length (model_slot st i).batch) size (length st.slots) (h.below i))
 
-calls_below : {T R : Type 0} (size : ℕ) → Invariant (λ (st : ModelState T R). Grows size st)
-calls_below size = record {
-  new_slot = made_below size;
-  slot_use = λ st s kind guards h.
-      grown size (length st.slots) _ (kept_below size (length st.slots) st s (record (model_slot st s) { kind = kind; guards = guards }) refl h);
-  parting = λ st s h. grown size (length st.slots) _ (part_below size (length st.slots) st s h);
-  attempt_by = λ st s h.
-      grown size (length st.slots) _ (attempt_below size (length st.slots) st s h.same_size refl (λ i other. h.below i));
-  retirement = λ st s v h. grown size (length st.slots) _ (put_below size (length st.slots) st s v h);
-  link_change = λ st link new h. record { same_size = h.same_size; many = h.many; below = h.below };
+taken_below : {T R : Type 0} (size : ℕ) (st : ModelState T R) (kind : Kind) → Grows size st → Grows size (attempt_if_full (with_number_in_use st (least_unused st.slots) kind) (least_unused st.slots)).0
+taken_below {T} {R} size st kind h =
+    let n : ℕ = least_unused st.slots in
+    let t : Bool = least_unused st.slots == length st.slots in
+    let room : Grows size (with_room t st) = room_below size st t h in
+    subst (λ (k : ModelState T R). Grows size (attempt_if_full k (least_unused st.slots)).0) (taken_is st kind t refl)
+    (grown size (length (with_room t st).slots) _
+    (full_below size (length (with_room t st).slots) (record (set_slot (with_room t st) n (taken_slot st kind)) { rest = [] }) n room.same_size (length-set (with_room t st).slots n (taken_slot st kind))
+    (λ i other. rw (get_or-set_other (with_room t st).slots n i (taken_slot st kind) unmade_slot other) (room.below i))))
+
+gathered_below : {T R : Type 0} (size : ℕ) (st : ModelState T R) (s : ℕ) → Grows size st → Grows size (attempt (with_rest_gathered st s) s).0
+gathered_below {T} {R} size st s h =
+    let new : ModelSlot T R = record (model_slot st s) { batch = rest_and_batch st s } in
+    grown size (length st.slots) _
+    (attempt_below size (length st.slots) (with_rest_gathered st s) s h.same_size (length-set st.slots s new) (λ i other. rw (get_or-set_other st.slots s i new unmade_slot other) (h.below i)))
+
+-- What was left: each slot whose number is free has brought fewer values than the bound of a batch.
+
+abbrev free_slot : {T R : Type 0} → ModelSlot T R → Bool
+free_slot slot = is_free slot.kind
+
+abbrev frees : {T R : Type 0} → ModelState T R → ℕ
+frees st = count_by free_slot st.slots
+
+abbrev RestFits : {T R : Type 0} → ℕ → ModelState T R → Type 0
+RestFits size st = length st.rest + frees st ≤ frees st * max (max 1 size) (length st.slots)
+
+none_fits : {T R : Type 0} (size : ℕ) (st : ModelState T R) → st.rest ≡ [] → RestFits size st
+none_fits {T} {R} size st none =
+    let empty : length st.rest ≡ 0 = ap (λ (l : List (T × R)). length l) none in
+    omega (arith, le-mul_of_pos_right {m = max (max 1 size) (length st.slots)} (frees st) (omega arith))
+
+rest_same : {T R : Type 0} (size : ℕ) (st now : ModelState T R) → now.rest ≡ st.rest → frees now ≡ frees st → length now.slots ≡ length st.slots → RestFits size st → RestFits size now
+rest_same size st now rest free many h = rw rest (rw free (rw many h))
+
+freed_fits : {T R : Type 0} (size : ℕ) (st : ModelState T R) (s : ℕ) → IsUsed st s → Grows size st → RestFits size st → RestFits size (with_number_free st s)
+freed_fits {T} {R} size st s used h fits =
+    let b : ℕ = max (max 1 size) (length st.slots) in
+    let more : frees (with_number_free st s) ≡ frees st + 1
+    = one_more _ _ _ (count_set free_slot st.slots s unmade_slot unmade_slot (in_use st s used)) used in
+    let all : length (st.rest ++ (model_slot st s).batch) + (frees st + 1) ≤ (frees st + 1) * b
+    = omega (arith, fits, h.below s, length-append st.rest (model_slot st s).batch, times_more (frees st) b) in
+    rw more (rw (length-set st.slots s unmade_slot) all)
+  where
+    one_more : (a c : ℕ) (t : Bool) → a + one t ≡ c + one true → t ≡ false → a ≡ c + 1
+    one_more a c true e f = absurd (cc)
+    one_more a c false e f = omega arith
+
+    times_more : (f b : ℕ) → (f + 1) * b ≡ f * b + b
+    times_more zero b = omega arith
+    times_more (suc f) b = omega (arith, times_more f b)
+
+-- both, beside what makes a state tidy
+abbrev Fits : {T R : Type 0} → ℕ → ModelState T R → Type 0
+Fits size st = AreTidy st × Grows size st × RestFits size st
+
+calls_fit : {T R : Type 0} (puts : R → T → List T) (weight : T → ℕ) (size : ℕ) → Invariant puts weight (λ (st : ModelState T R). Fits size st)
+calls_fit {T} {R} puts weight size = record {
+  owned = λ st s h. (h.0 s).owned;
+  taking = λ st kind used h. (tidy.taking st kind used h.0, taken_below size st kind h.1, none_fits size (attempt_if_full (with_number_in_use st (least_unused st.slots) kind) (least_unused st.slots)).0 (taken_none st kind));
+  ending = gives_keep (λ (st : ModelState T R). Fits size st) puts weight retirement
+      (λ st s idle h. (tidy_gathered st s idle.0 h.0, gathered_below size st s h.1, none_fits size (attempt (with_rest_gathered st s) s).0 (attempt_beside (λ (k : ModelState T R). k.rest) ignores_rest (with_rest_gathered st s) s)))
+      (λ st s idle h. (tidy_set st s unmade_slot h.0 unmade_tidy, grown size (length st.slots) _ (free_below st s h.1), freed_fits size st s idle.0 h.1 h.2));
+  guarding = λ st s n used some owned h. (tidy.guarding st s n used some owned h.0, guards_below st s n h.1, guards_fit st s n h.2);
+  leaving = λ st s used h. (
+    tidy.leaving st s used h.0,
+    grown size _ _ (part_below size _ (set_guards st s 0) s (guards_below st s 0 h.1)),
+    parted (set_guards st s 0) s (guards_fit st s 0 h.2),
+  );
+  parting = λ st s used h. (tidy.parting st s used h.0, grown size (length st.slots) _ (part_below size (length st.slots) st s h.1), parted st s h.2);
+  attempt_by = λ st s used h. (
+    tidy.attempt_by st s used h.0,
+    grown size (length st.slots) _ (attempt_below size (length st.slots) st s h.1.same_size refl (λ i other. h.1.below i)),
+    rest_same size st (attempt st s).0 (attempt_beside (λ (k : ModelState T R). k.rest) ignores_rest st s) (attempt_beside (λ (k : ModelState T R). frees k) ignores_free st s) (attempt_beside (λ (k : ModelState T R). length k.slots) ignores_many st s) h.2,
+  );
+  retirement = retirement;
+  link_change = λ st link new h. (h.0, record { same_size = h.1.same_size; many = h.1.many; below = h.1.below }, h.2);
 }
+  where
+    tidy : Invariant puts weight (λ (st : ModelState T R). AreTidy st)
+    tidy = tidy_calls puts weight
+
+    ignores_free : Ignores (λ (st : ModelState T R). frees st)
+    ignores_free = ignores_count free_slot (λ slot batch order. refl)
+
+    retirement : (st : ModelState T R) (s : ℕ) (v : T × R) → IsUsed st s → Fits size st → Fits size (put st s v).0
+    retirement st s v used h = (
+      tidy_put st s v used h.0,
+      grown size (length st.slots) _ (put_below size (length st.slots) st s v h.1),
+      rest_same size st (put st s v).0 (put_beside (λ (k : ModelState T R). k.rest) ignores_rest st s v) (put_beside (λ (k : ModelState T R). frees k) ignores_free st s v) (put_beside (λ (k : ModelState T R). length k.slots) ignores_many st s v) h.2,
+    )
+
+    parted : (st : ModelState T R) (s : ℕ) → RestFits size st → RestFits size (part st s).0
+    parted st s = rest_same size st (part st s).0 (part_beside (λ (k : ModelState T R). k.rest) ignores_rest st s) (part_beside (λ (k : ModelState T R). frees k) ignores_free st s) (part_beside (λ (k : ModelState T R). length k.slots) ignores_many st s)
+
+    guards_below : (st : ModelState T R) (s n : ℕ) → Grows size st → Grows size (set_guards st s n)
+    guards_below st s n h = grown size (length st.slots) _ (kept_below size (length st.slots) st s (record (model_slot st s) { guards = n }) refl h)
+
+    guards_fit : (st : ModelState T R) (s n : ℕ) → RestFits size st → RestFits size (set_guards st s n)
+    guards_fit st s n = rest_same size st (set_guards st s n) refl (count_same free_slot st.slots s (record (model_slot st s) { guards = n }) unmade_slot refl) (length-set st.slots s (record (model_slot st s) { guards = n }))
+
+    free_below : (st : ModelState T R) (s : ℕ) → Grows size st → IsBelow size (length st.slots) (with_number_free st s)
+    free_below st s h =
+        let b : IsBelow size (length st.slots) (set_slot st s unmade_slot) = set_below size (length st.slots) st s unmade_slot h.same_size refl (λ i other. h.below i) (omega arith) in
+        record { same_size = b.same_size; many = b.many; below = b.below }
+
+-- so what was left is below its bound
+rest_below : {T R : Type 0} (size : ℕ) (st : ModelState T R) → RestFits size st → (st.rest ≡ []) ⊎ (length st.rest < max (max 1 size) (length st.slots) * length st.slots)
+rest_below {T} {R} size st fits = go st.rest fits
+  where
+    b : ℕ
+    b = max (max 1 size) (length st.slots)
+
+    go : (rest : List (T × R)) → length rest + frees st ≤ frees st * b → (rest ≡ []) ⊎ (length rest < b * length st.slots)
+    go [] h = inl refl
+    go (v ∷ rest) h =
+        let few : frees st ≤ length st.slots = count_by-le-length free_slot st.slots in
+        let wide : frees st * b ≤ length st.slots * b = mul-le (frees st) b (length st.slots) b few (omega arith) in
+        inr (some (frees st) h wide)
+      where
+        some : (f : ℕ) → length (v ∷ rest) + f ≤ f * b → f * b ≤ length st.slots * b → length (v ∷ rest) < b * length st.slots
+        some zero h wide = absurd (omega arith)
+        some (suc f) h wide = omega (arith, mul_comm b (length st.slots))
 
 pub batch_bound : {T R : Type 0} (puts : R → T → List T) (weight : T → ℕ) → BoundLaw {T = T} {R = R} puts weight
-batch_bound {T} {R} puts weight size links list s =
-    let h : Grows size (run puts weight (new size links) list).1.0
-    = run_keeps (λ (st : ModelState T R). Grows size st) (calls_below size) puts weight (new size links) list
-    (record { same_size = refl; many = refl; below = λ i. omega arith }) in
-    subst (λ (k : ℕ). length (model_slot (run puts weight (new size links) list).1.0 s).batch < max (max 1 k) (length (run puts weight (new size links) list).1.0.slots)) (sym h.same_size) (h.below s)
+batch_bound {T} {R} puts weight size links list =
+    let h : Fits size (run puts weight (new size links) list).1.0
+    = run_keeps (λ (st : ModelState T R). Fits size st) puts weight (calls_fit puts weight size) (new size links) list
+    (λ i. unmade_tidy, record { same_size = refl; many = refl; below = λ i. omega arith }, none_fits {T = T} {R = R} size (new size links) refl) in
+    subst (λ (k : ℕ). ((s : ℕ) → length (model_slot (run puts weight (new size links) list).1.0 s).batch < max (max 1 k) (length (run puts weight (new size links) list).1.0.slots))
+    × (((run puts weight (new size links) list).1.0.rest ≡ []) ⊎ (length (run puts weight (new size links) list).1.0.rest < max (max 1 k) (length (run puts weight (new size links) list).1.0.slots) * length (run puts weight (new size links) list).1.0.slots)))
+    (sym h.1.same_size) (h.1.below, rest_below size (run puts weight (new size links) list).1.0 h.2)

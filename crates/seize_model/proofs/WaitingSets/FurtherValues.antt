@@ -1,5 +1,5 @@
 -- The further values come to an end, and how the definition unfolds.
-use Rattle.std.proofs.Common.{◌≡◌, ℕ, zero, suc, ◌+◌, ◌-◌, ◌*◌, ◌<◌, ◌≤◌, nat_le, max, List, [], ◌∷◌, ◌++◌, length, map, sum, refl, ◌∙◌, ap, subst, ◌⊎◌, inl, inr, arith, drop}
+use Rattle.std.proofs.Common.{◌≡◌, ℕ, zero, suc, ◌+◌, ◌-◌, ◌*◌, ◌<◌, ◌≤◌, nat_le, max, List, [], ◌∷◌, ◌++◌, length, map, sum, refl, ◌∙◌, ap, subst, ◌⊎◌, inl, inr, arith}
 use Rattle.std.specs.List.{sum_by}
 use Rattle.std.proofs.lemmas.List.{get_or-set_same, length-set, length-map, get_or-map, get_or_past}
 use Rattle.std.proofs.lemmas.List.Sums.{sum_by-append, sum_by-cons, sum_by_push, sum-map}
@@ -175,8 +175,3 @@ pub afterwards-cons : {T R : Type 0} (puts : R → T → List T) (weight : T →
     → afterwards puts weight st s (v ∷ queue) ≡ with_gone (put st s v).1 (afterwards puts weight (put st s v).0 s (queue ++ further puts (put st s v).1))
 afterwards-cons puts weight h st s v queue =
     unfolds puts weight h (still_to_come weight (model_slot st s).batch (v ∷ queue)) st s v queue (omega arith)
-
--- a queue whose rest is the queue itself is empty
-pub no_rest : {X : Type 0} (xs : List X) → xs ≡ drop 1 xs → xs ≡ []
-no_rest [] e = refl
-no_rest (x ∷ xs) e = absurd (omega (arith, ap length e))

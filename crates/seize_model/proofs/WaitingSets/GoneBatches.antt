@@ -1,15 +1,21 @@
 -- In a reached state a retired batch that waits for no slot has no values left.
-use Rattle.std.proofs.Common.{◌≡◌, ◌≢◌, ℕ, zero, suc, Bool, true, false, not, ◌||◌, ◌==◌, if◌then◌else◌, nat_le, max, List, [], ◌∷◌, ◌++◌, length, map, get_or, set, refl, sym, ◌∙◌, ap, ◌⊎◌, inl, inr, arith}
-use Rattle.std.specs.List.{list_any}
+use Rattle.std.proofs.Common.{◌≡◌, ◌≢◌, ℕ, zero, suc, Bool, true, false, not, ◌||◌, ◌==◌, if◌then◌else◌, List, [], ◌∷◌, ◌++◌, length, map, get_or, set, refl, sym, ◌∙◌, ap, subst, ◌⊎◌, inl, inr, arith}
+use Rattle.std.specs.List.{list_any, range_with_len}
 use Rattle.std.proofs.lemmas.List.{get_or-set_other}
+use Rattle.std.proofs.Math.ListN.{get_or-map}
 use Rattle.seize_machine.specs.Machine.State.{has}
+use Rattle.seize_model.specs.declared.kind.Kind.{Kind}
 use Rattle.seize_model.specs.Waiting.State.{ModelSlot, ModelState, model_slot, set_slot, unmade_slot, is_kept, waits_for, retired_at}
-use Rattle.seize_model.specs.Waiting.Attempt.{StateAndGone, release_all, attempt, gives_up, wait_if_active, with_batch_retired, put, with_batch_value, part}
+use Rattle.seize_model.specs.Waiting.Attempt.{StateAndGone, release_all, attempt, gives_up, wait_if_active, with_batch_retired, is_full, attempt_if_full, put, with_batch_value, part}
+use Rattle.seize_model.specs.Waiting.Calls.{least_unused, with_number_in_use, set_guards, with_rest_gathered, part_all}
 use Rattle.seize_model.specs.Waiting.Reached.{Reached, GoneLaw}
 use Rattle.seize_machine.proofs.Facts.{is_true}
 use Rattle.seize_model.proofs.Cases.{either, or_same}
 use Rattle.seize_model.proofs.Counts.{count_same, any_counts, beside}
-use Rattle.seize_model.proofs.WaitingSets.Invariants.{Invariant, step_keeps, swap_keeps}
+use Rattle.seize_model.proofs.WaitingSets.Taken.{with_room, free_room, taken_slot, taken_is}
+use Rattle.seize_model.proofs.WaitingSets.Refusals.{IsUsed}
+use Rattle.seize_model.proofs.WaitingSets.Invariants.{Invariant, gives_keep, step_keeps, swap_keeps}
+use Rattle.seize_model.proofs.WaitingSets.Tidy.{IsTidy, AreTidy, unmade_tidy, tidy_set, tidy_put, tidy_gathered, room_tidy, tidy_calls}
 use Rattle.seize_model.proofs.WaitingSets.Orders.{old_count}
 
 abbrev pub IsClean : {T R : Type 0} → ModelState T R → Type 0
@@ -81,10 +87,11 @@ attempt_clean {T} {R} st s clean =
         = any_counts (waits_for b) slots ∙ ap (λ (n : ℕ). not (n == 0)) (sym (old_count (length st.retired) b slots other)) ∙ sym (any_counts (waits_for b) (map (wait_if_active (length st.retired)) slots)) ∙ e in
         inr (beside st.retired (model_slot st s).batch [] b other ∙ clean_set st s (record (model_slot st s) { batch = [] }) refl clean b before)
 
+full_clean : {T R : Type 0} (st : ModelState T R) (s : ℕ) → IsClean st → IsClean (attempt_if_full st s).0
+full_clean {T} {R} st s clean = either (λ (o : StateAndGone T R). IsClean o.0) (is_full st.size (model_slot st s).batch) _ _ (attempt_clean st s clean) clean
+
 put_clean : {T R : Type 0} (st : ModelState T R) (s : ℕ) (v : T × R) → IsClean st → IsClean (put st s v).0
-put_clean {T} {R} st s v clean =
-    let next : IsClean (with_batch_value st s v) = clean_set st s (record (model_slot st s) { batch = (model_slot st s).batch ++ v ∷ [] }) refl clean in
-    either (λ (o : StateAndGone T R). IsClean o.0) (nat_le (max 1 st.size) (length (model_slot (with_batch_value st s v) s).batch)) _ _ (attempt_clean (with_batch_value st s v) s next) next
+put_clean st s v clean = full_clean (with_batch_value st s v) s (clean_set st s (record (model_slot st s) { batch = (model_slot st s).batch ++ v ∷ [] }) refl clean)
 
 -- Calls.
 
@@ -92,22 +99,51 @@ any_push : {X : Type 0} (p : X → Bool) (xs : List X) (y : X) → p y ≡ false
 any_push p [] y e = ap (λ (t : Bool). t || false) e
 any_push p (x ∷ xs) y e = ap (λ (t : Bool). p x || t) (any_push p xs y e)
 
-calls_clean : {T R : Type 0} → Invariant (λ (st : ModelState T R). IsClean st)
-calls_clean = record {
-  new_slot = λ st kind guards clean b e.
-      clean b (sym (any_push (waits_for b) st.slots (record { kind = kind; guards = guards; batch = []; order = [] }) refl) ∙ e);
-  slot_use = λ st s kind guards clean. clean_set st s (record (model_slot st s) { kind = kind; guards = guards }) refl clean;
-  parting = part_clean;
-  attempt_by = attempt_clean;
-  retirement = put_clean;
-  link_change = λ st link new clean. clean;
+abbrev pub Clean : {T R : Type 0} → ModelState T R → Type 0
+Clean st = AreTidy st × IsClean st
+
+calls_clean : {T R : Type 0} (puts : R → T → List T) (weight : T → ℕ) → Invariant puts weight (λ (st : ModelState T R). Clean st)
+calls_clean {T} {R} puts weight = record {
+  owned = λ st s h. (h.0 s).owned;
+  taking = λ st kind used h. (tidy.taking st kind used h.0, full_clean (with_number_in_use st (least_unused st.slots) kind) (least_unused st.slots) (taking st kind (least_unused st.slots == length st.slots) refl h.0 h.1));
+  ending = gives_keep (λ (st : ModelState T R). Clean st) puts weight retirement
+      (λ st s idle h. (tidy_gathered st s idle.0 h.0, attempt_clean (with_rest_gathered st s) s (clean_set st s _ refl h.1)))
+      (λ st s idle h. (tidy_set st s unmade_slot h.0 unmade_tidy, clean_set st s unmade_slot (sym ((h.0 s).inactive idle.1)) h.1));
+  guarding = λ st s n used some owned h. (tidy.guarding st s n used some owned h.0, clean_set st s (record (model_slot st s) { guards = n }) refl h.1);
+  leaving = λ st s used h. (tidy.leaving st s used h.0, part_clean (set_guards st s 0) s (clean_set st s (record (model_slot st s) { guards = 0 }) refl h.1));
+  parting = λ st s used h. (tidy.parting st s used h.0, part_clean st s h.1);
+  attempt_by = λ st s used h. (tidy.attempt_by st s used h.0, attempt_clean st s h.1);
+  retirement = retirement;
+  link_change = λ st link new h. h;
 }
+  where
+    tidy : Invariant puts weight (λ (st : ModelState T R). AreTidy st)
+    tidy = tidy_calls puts weight
+
+    retirement : (st : ModelState T R) (s : ℕ) (v : T × R) → IsUsed st s → Clean st → Clean (put st s v).0
+    retirement st s v used h = (tidy_put st s v used h.0, put_clean st s v h.1)
+
+    room_clean : (st : ModelState T R) (t : Bool) → IsClean st → IsClean (with_room t st)
+    room_clean st true clean b e = clean b (sym (any_push (waits_for b) st.slots unmade_slot refl) ∙ e)
+    room_clean st false clean b e = clean b e
+
+    taking : (st : ModelState T R) (kind : Kind) (t : Bool) → (least_unused st.slots == length st.slots) ≡ t → AreTidy st → IsClean st → IsClean (with_number_in_use st (least_unused st.slots) kind)
+    taking st kind t t_is all clean =
+        let free : model_slot (with_room t st) (least_unused st.slots) ≡ unmade_slot = (room_tidy st t all (least_unused st.slots)).free (free_room st t t_is).1 in
+        subst (λ (k : ModelState T R). IsClean k) (taken_is st kind t t_is)
+        (clean_set (with_room t st) (least_unused st.slots) (taken_slot st kind) (sym (ap (λ (x : ModelSlot T R). x.order) free)) (room_clean st t clean))
+
+-- both hold in each reached state
+pub reached_clean : {T R : Type 0} (puts : R → T → List T) (weight : T → ℕ) (st : ModelState T R) → Reached puts weight st → Clean st
+reached_clean puts weight _ (Reached.made size links) = (λ i. unmade_tidy, λ b e. refl)
+reached_clean puts weight _ (Reached.resized st size before) = reached_clean puts weight st before
+reached_clean {T} {R} puts weight _ (Reached.called st call before) =
+    step_keeps (λ (k : ModelState T R). Clean k) puts weight (calls_clean puts weight) st call (reached_clean puts weight st before)
+reached_clean {T} {R} puts weight _ (Reached.swapped st s link value before) =
+    swap_keeps (λ (k : ModelState T R). Clean k) puts weight (calls_clean puts weight) st s link value (reached_clean puts weight st before)
+reached_clean {T} {R} puts weight _ (Reached.reclaimed st before) =
+    let parted : List (ModelSlot T R) = (part_all st (range_with_len 0 (length st.slots))).0.slots in
+    (λ i. subst (λ (x : ModelSlot T R). IsTidy x) (sym (get_or-map (λ (slot : ModelSlot T R). unmade_slot) parted i unmade_slot)) unmade_tidy, λ b e. refl)
 
 pub none_left : {T R : Type 0} (puts : R → T → List T) (weight : T → ℕ) → GoneLaw puts weight
-none_left puts weight _ (Reached.made size links) = λ b e. refl
-none_left puts weight _ (Reached.resized st size before) = none_left puts weight st before
-none_left {T} {R} puts weight _ (Reached.called st call before) =
-    step_keeps (λ (k : ModelState T R). IsClean k) calls_clean puts weight st call (none_left puts weight st before)
-none_left {T} {R} puts weight _ (Reached.swapped st s link value before) =
-    swap_keeps (λ (k : ModelState T R). IsClean k) calls_clean puts weight st s link value (none_left puts weight st before)
-none_left puts weight _ (Reached.reclaimed st before) = λ b e. refl
+none_left puts weight st reached = (reached_clean puts weight st reached).1

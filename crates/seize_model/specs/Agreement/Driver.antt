@@ -1,11 +1,11 @@
 -- The events of a call that is made while no other is under way, as they are computed.
-use Rattle.std.specs.Prelude.{ℕ, zero, suc, ◌==◌, ◌||◌, if◌then◌else◌, nat_lt, List, [], ◌∷◌, ◌++◌, Option, Some, None}
+use Rattle.std.specs.Prelude.{ℕ, zero, suc, Bool, ◌==◌, ◌||◌, if◌then◌else◌, nat_lt, List, [], ◌∷◌, ◌++◌, Option, Some, None}
 use Rattle.seize_machine.specs.Machine.State as machine
 use Rattle.seize_machine.specs.Machine.State.{Place, Append, Mark, Look, Try, Add, Out, Rest}
 use Rattle.seize_machine.specs.Machine.Event.{Event, Take, Give, Enter as EnterHead, Begin, Put, ReadHead, Detach, Insert, AddCount, SwapOut, SubCount, Hand, Return, ReadLink, ExchangeLink}
 use Rattle.seize_machine.specs.Machine.Next.{next}
 use Rattle.seize_machine.specs.declared.machine.event.Job.{Job}
-use Rattle.seize_machine.specs.declared.machine.event.Job.TheVariants.{Retire as RetireJob, Flush as FlushJob, Leave as LeaveJob, Refresh as RefreshJob}
+use Rattle.seize_machine.specs.declared.machine.event.Job.TheVariants.{Retire as RetireJob, Flush as FlushJob, Leave as LeaveJob, Refresh as RefreshJob, Gather as GatherJob}
 use Rattle.seize_machine.specs.declared.machine.event.Try.TheVariants.{Won}
 use Rattle.seize_machine.specs.declared.machine.event.Exchange.TheVariants.{Swap as SwapLink}
 use Rattle.seize_model.specs.Waiting.State as waiting
@@ -45,16 +45,37 @@ abbrev pub job : Puts → ℕ → ℕ → machine.State → ℕ → Job → List
 job puts n size st s j =
     elim (next size st (Begin s j)) [ None ↦ Begin s j ∷ [] | Some d ↦ Begin s j ∷ rest_of_call puts n size d.0 s ]
 
+-- a number is taken, and what was left is attempted, if it is enough
+abbrev pub take_events : Puts → ℕ → ℕ → machine.State → ℕ → List Event
+take_events puts n size st s =
+    elim (next size st (Take s)) [ None ↦ Take s ∷ [] | Some d ↦ Take s ∷ rest_of_call puts n size d.0 s ]
+
+-- a number is given back, after at most this many gatherings
+abbrev pub give_events : Puts → ℕ → ℕ → ℕ → machine.State → ℕ → List Event
+give_events puts zero n size st s = Give s ∷ []
+give_events puts (suc m) n size st s =
+    elim (next size st (Give s)) [
+      | Some d ↦ Give s ∷ []
+      | None ↦ let es = job puts n size st s GatherJob in
+          elim (play size st es) [ None ↦ es | Some r ↦ es ++ give_events puts m n size r.0 s ]
+    ]
+
+-- the slot is left, and the number of an owned one is given back
+abbrev pub leave_events : Puts → ℕ → ℕ → machine.State → ℕ → Bool → List Event
+leave_events puts n size st s owned =
+    let es = job puts n size st s LeaveJob in
+    if owned then elim (play size st es) [ None ↦ es | Some r ↦ es ++ give_events puts 30 n size r.0 s ] else es
+
 -- the events of a call that is not refused
 abbrev pub call_events : {R : Type 0} → Puts → ℕ → waiting.ModelState ℕ R → machine.State → Call ℕ R → List Event
-call_events puts n st shown Register = Take (least_unused st.slots) ∷ []
-call_events puts n st shown EnterOwned = Take (least_unused st.slots) ∷ EnterHead (least_unused st.slots) ∷ []
+call_events puts n st shown Register = take_events puts n st.size shown (least_unused st.slots)
+call_events puts n st shown EnterOwned = take_events puts n st.size shown (least_unused st.slots) ++ EnterHead (least_unused st.slots) ∷ []
 call_events puts n st shown (Enter s) = if waiting.has_guard (waiting.model_slot st s) then [] else EnterHead s ∷ []
 call_events puts n st shown (Leave s) =
     if (waiting.model_slot st s).guards == 1
-    then job puts n st.size shown s LeaveJob ++ (if is_owned (waiting.model_slot st s).kind then Give s ∷ [] else [])
+    then leave_events puts n st.size shown s (is_owned (waiting.model_slot st s).kind)
     else []
-call_events puts n st shown (End s) = if waiting.has_guard (waiting.model_slot st s) then [] else Give s ∷ []
+call_events puts n st shown (End s) = if waiting.has_guard (waiting.model_slot st s) then [] else give_events puts 30 n st.size shown s
 call_events puts n st shown (Refresh s) =
     if is_owned (waiting.model_slot st s).kind || ((waiting.model_slot st s).guards == 1)
     then job puts n st.size shown s RefreshJob

@@ -1,14 +1,15 @@
 -- The events that a call makes when it is made alone, and what they put.
-use Rattle.std.specs.Prelude.{◌≡◌, ℕ, Bool, true, false, ◌||◌, ◌==◌, if◌then◌else◌, List, [], ◌∷◌, ◌++◌, Option, Some, None}
+use Rattle.std.specs.Prelude.{◌≡◌, ℕ, Bool, true, false, not, ◌||◌, ◌==◌, if◌then◌else◌, List, [], ◌∷◌, ◌++◌, Option, Some, None}
 use Rattle.seize_machine.specs.Machine.State as machine
 use Rattle.seize_machine.specs.Machine.Event.{Event, Take, Give, Enter as EnterHead, Begin, Hand, Return, ReadLink, ExchangeLink, event_slot}
 use Rattle.seize_machine.specs.Machine.History.{is_link_event}
 use Rattle.seize_machine.specs.declared.machine.event.Job.{Job}
-use Rattle.seize_machine.specs.declared.machine.event.Job.TheVariants.{Retire as RetireJob, Flush as FlushJob, Leave as LeaveJob, Refresh as RefreshJob}
+use Rattle.seize_machine.specs.declared.machine.event.Job.TheVariants.{Retire as RetireJob, Flush as FlushJob, Leave as LeaveJob, Refresh as RefreshJob, Gather as GatherJob}
 use Rattle.seize_machine.specs.declared.machine.event.Exchange.TheVariants.{Swap as SwapLink}
 use Rattle.seize_machine.specs.declared.machine.event.Answer.{Answer}
 use Rattle.seize_machine.specs.declared.machine.event.Answer.TheVariants.{Handed}
 use Rattle.seize_model.specs.Waiting.State as waiting
+use Rattle.seize_model.specs.Waiting.Attempt.{is_full}
 use Rattle.seize_model.specs.Waiting.Calls.{is_owned}
 use Rattle.seize_model.specs.Waiting.Further.{put_by}
 use Rattle.seize_model.specs.Waiting.Lists.{Call, Register, EnterOwned, Enter, Leave, End, Refresh, Flush, Retire, Protect, Swap, Reply, Refused}
@@ -28,28 +29,38 @@ pub data IsToReturn (s : ℕ) : List Event → Type 0 where
 abbrev pub IsJob : ℕ → Job → List Event → Type 0
 IsJob s job events = (es : List Event) × (events ≡ Begin s job ∷ es) × IsToReturn s es
 
+-- such events where this is so, and else none
+abbrev pub Where : Bool → (List Event → Type 0) → List Event → Type 0
+Where true made events = made events
+Where false made events = events ≡ []
+
+-- a number is taken, and what was left is attempted, where it is enough
+abbrev pub IsTaken : ℕ → Bool → List Event → Type 0
+IsTaken s enough events = (es : List Event) × (events ≡ Take s ∷ es) × Where enough (IsToReturn s) es
+
+-- a number is given back, after any number of gatherings
+pub data IsEnded (s : ℕ) : List Event → Type 0 where
+  gives : IsEnded s (Give s ∷ [])
+  gathers : (es fs : List Event) → IsJob s GatherJob es → IsEnded s fs → IsEnded s (es ++ fs)
+
 -- what leaving the slot makes: the number of an owned slot is given back
 abbrev pub IsLeft : ℕ → Bool → List Event → Type 0
-IsLeft s owned events = (es : List Event) × (events ≡ es ++ (if owned then Give s ∷ [] else [])) × IsJob s LeaveJob es
+IsLeft s owned events = (es fs : List Event) × (events ≡ es ++ fs) × IsJob s LeaveJob es × Where owned (IsEnded s) fs
 
 -- what follows on the exchange of a link: the number that it held is retired
 abbrev pub IsRetiredFrom : ℕ → Option ℕ → List Event → Type 0
 IsRetiredFrom s None events = events ≡ []
 IsRetiredFrom s (Some n) events = IsJob s (RetireJob n) events
 
--- such events where this is so, and else none
-abbrev pub Where : Bool → (List Event → Type 0) → List Event → Type 0
-Where true made events = made events
-Where false made events = events ≡ []
-
 -- the events of a call that is not refused, from two states that show each other
 abbrev pub AreEventsOf : {T R : Type 0} → waiting.ModelState T R → machine.State → Call T R → List Event → Type 0
-AreEventsOf st shown Register events = (n : ℕ) × (events ≡ Take n ∷ [])
-AreEventsOf st shown EnterOwned events = (n : ℕ) × (events ≡ Take n ∷ EnterHead n ∷ [])
+AreEventsOf st shown Register events = (n : ℕ) × IsTaken n (is_full st.size st.rest) events
+AreEventsOf st shown EnterOwned events =
+    (n : ℕ) × (es : List Event) × (events ≡ es ++ EnterHead n ∷ []) × IsTaken n (is_full st.size st.rest) es
 AreEventsOf st shown (Enter s) events = events ≡ (if waiting.has_guard (waiting.model_slot st s) then [] else EnterHead s ∷ [])
 AreEventsOf st shown (Leave s) events =
     Where ((waiting.model_slot st s).guards == 1) (IsLeft s (is_owned (waiting.model_slot st s).kind)) events
-AreEventsOf st shown (End s) events = events ≡ (if waiting.has_guard (waiting.model_slot st s) then [] else Give s ∷ [])
+AreEventsOf st shown (End s) events = Where (not (waiting.has_guard (waiting.model_slot st s))) (IsEnded s) events
 AreEventsOf st shown (Refresh s) events =
     Where (is_owned (waiting.model_slot st s).kind || ((waiting.model_slot st s).guards == 1)) (IsJob s RefreshJob) events
 AreEventsOf st shown (Flush s) events = IsJob s FlushJob events

@@ -45,8 +45,10 @@ pub record ShowsState (T R : Type 0) (of : ℕ → T) (st : waiting.ModelState T
   pub values : (b : ℕ) → ShowsValues of (machine.batch_at shown b).values (waiting.retired_at st b)
   pub counts : (b : ℕ) → (machine.batch_at shown b).count ≡ pos (count_by (waiting.waits_for b) st.slots)
   pub links : map (held_value of) shown.links ≡ st.links
+  pub rest : ShowsValues of shown.rest st.rest
 
 -- Besides, where each number has a reclaimer too: the values that wait or are retired are to be reclaimed by those of their numbers.
 pub record ShowsReclaimers (T R : Type 0) (of : ℕ → T) (by : ℕ → R) (st : waiting.ModelState T R) (shown : machine.State) : Type 0 where
   pub batches : (s : ℕ) → StandFor of by (machine.slot_at shown s).batch (waiting.model_slot st s).batch
   pub retired : (b : ℕ) → StandFor of by (machine.batch_at shown b).values (waiting.retired_at st b)
+  pub rest : StandFor of by shown.rest st.rest

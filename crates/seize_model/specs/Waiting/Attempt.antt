@@ -51,14 +51,17 @@ attempt st s =
 abbrev pub with_batch_value : {T R : Type 0} → ModelState T R → ℕ → T × R → ModelState T R
 with_batch_value st s v = set_slot st s (record (model_slot st s) { batch = (model_slot st s).batch ++ v ∷ [] })
 
--- **Retire v by s.** The value joins the batch of s, and an attempt follows if the batch is then long enough. A size of 0
--- serves as 1.
+-- so many values are enough for an attempt of themselves. A size of 0 serves as 1
+abbrev pub is_full : {X : Type 0} → ℕ → List X → Bool
+is_full size values = nat_le (max 1 size) (length values)
+
+-- an attempt by s, if its batch is full
+abbrev pub attempt_if_full : {T R : Type 0} → ModelState T R → ℕ → StateAndGone T R
+attempt_if_full st s = if is_full st.size (model_slot st s).batch then attempt st s else (st, [])
+
+-- **Retire v by s.** The value joins the batch of s, and an attempt follows if the batch is full then.
 abbrev pub put : {T R : Type 0} → ModelState T R → ℕ → T × R → StateAndGone T R
-put st s v =
-    let next = with_batch_value st s v in
-    if nat_le (max 1 st.size) (length (model_slot next s).batch)
-    then attempt next s
-    else (next, [])
+put st s v = attempt_if_full (with_batch_value st s v) s
 
 -- those of these batches whose waiting set is empty are gone, first to last
 abbrev pub release_all : {T R : Type 0} → ModelState T R → List ℕ → StateAndGone T R

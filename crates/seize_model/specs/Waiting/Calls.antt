@@ -1,13 +1,13 @@
 -- The calls made one after another: each gives its answer and its outcome. A refused call changes nothing.
-use Rattle.std.specs.Prelude.{ℕ, ◌+◌, ◌-◌, ◌^◌, Bool, true, false, ◌||◌, ◌==◌, if◌then◌else◌, List, [], ◌∷◌, ◌++◌, length, map, Option, Some, None, Result, Ok, Err, slice_set, slice_index_or}
-use Rattle.std.specs.List.{position_or_len, flat_map, range_with_len}
+use Rattle.std.specs.Prelude.{ℕ, zero, suc, not, ◌+◌, ◌-◌, ◌^◌, Bool, true, false, ◌||◌, ◌==◌, if◌then◌else◌, List, [], ◌∷◌, ◌++◌, length, map, Option, Some, None, Result, Ok, Err, slice_set, slice_index_or}
+use Rattle.std.specs.List.{position_or_len, flat_map, list_any, range_with_len, sum_by}
 use Rattle.seize_model.specs.declared.kind.Kind.{Kind}
 use Rattle.seize_model.specs.declared.kind.Kind.TheVariants.{Free, Registered, Owned}
 use Rattle.seize_table.specs.Place.{all_numbers}
 use Rattle.seize_table.specs.declared.refusal.Refusal.{Refusal}
 use Rattle.seize_table.specs.declared.refusal.Refusal.TheVariants.{NoNumbers, TooManyGuards, NotInUse, NotActive, WrongKind}
-use Rattle.seize_model.specs.Waiting.State.{ModelSlot, ModelState, model_slot, set_slot, has_guard}
-use Rattle.seize_model.specs.Waiting.Attempt.{StateAndGone, with_gone, attempt, put, part}
+use Rattle.seize_model.specs.Waiting.State.{ModelSlot, ModelState, unmade_slot, model_slot, set_slot, has_guard}
+use Rattle.seize_model.specs.Waiting.Attempt.{StateAndGone, with_gone, attempt, attempt_if_full, put, part}
 use Rattle.seize_model.specs.Waiting.Further.{further, with_further, gone_from}
 
 -- what a call answers, and its outcome
@@ -56,25 +56,29 @@ too_many st s = if (model_slot st s).guards == 2 ^ 64 - 1 then Some TooManyGuard
 abbrev pub least_unused : {T R : Type 0} → List (ModelSlot T R) → ℕ
 least_unused slots = position_or_len (λ slot. is_free slot.kind) slots
 
--- number n is in use. A slot made before keeps its batch
-abbrev pub with_number_in_use : {T R : Type 0} → ModelState T R → ℕ → Kind → ℕ → ModelState T R
-with_number_in_use st n kind guards =
-    if n == length st.slots
-    then record st { slots = st.slots ++ record { kind = kind; guards = guards; batch = []; order = [] } ∷ [] }
-    else set_slot st n (record (model_slot st n) { kind = kind; guards = guards })
-
--- **Register** is this with `Registered` and no guard, and **enter owned** with `Owned` and one guard. There are 2^64 - 32 numbers.
-abbrev pub take_number : {T R : Type 0} → ModelState T R → Kind → ℕ → Response ℕ T R
-take_number st kind guards =
-    let n = least_unused st.slots in
-    if n == all_numbers
-    then (Err NoNumbers, (st, []))
-    else (Ok n, (with_number_in_use st n kind guards, []))
-
--- Guards.
-
 abbrev pub set_guards : {T R : Type 0} → ModelState T R → ℕ → ℕ → ModelState T R
 set_guards st s n = set_slot st s (record (model_slot st s) { guards = n })
+
+-- number n is in use, without a guard, and what the slots that ended left is its batch
+abbrev pub with_number_in_use : {T R : Type 0} → ModelState T R → ℕ → Kind → ModelState T R
+with_number_in_use {T} {R} st n kind =
+    let slot : ModelSlot T R = record { kind = kind; guards = 0; batch = st.rest; order = [] } in
+    record st { slots = (if n == length st.slots then st.slots ++ slot ∷ [] else slice_set st.slots n slot); rest = [] }
+
+-- n is taken, and what is its slot's batch then is attempted, if that is full
+abbrev pub taking : {T R : Type 0} → (R → T → List T) → (T → ℕ) → ModelState T R → ℕ → Kind → StateAndGone T R
+taking puts weight st n kind = with_further puts weight n (attempt_if_full (with_number_in_use st n kind) n)
+
+-- **Register** is this with `Registered` and no guard, and **enter owned** with `Owned` and one guard. There are 2^64 - 32 numbers.
+abbrev pub take_number : {T R : Type 0} → (R → T → List T) → (T → ℕ) → ModelState T R → Kind → ℕ → Response ℕ T R
+take_number puts weight st kind guards =
+    let n = least_unused st.slots in
+    let o = taking puts weight st n kind in
+    if n == all_numbers
+    then (Err NoNumbers, (st, []))
+    else (Ok n, (set_guards o.0 n guards, o.1))
+
+-- Guards.
 
 -- **Enter.** The slot has one guard more.
 abbrev pub enter : {T R : Type 0} → ModelState T R → ℕ → Response (Unit {0}) T R
@@ -82,15 +86,47 @@ enter st s =
     unless (first_refusal (not_registered st s) (too_many st s)) st
     (Ok tt, (set_guards st s ((model_slot st s).guards + 1), []))
 
--- the number is not in use
+-- Giving a number back.
+
+-- another slot is in use
+abbrev pub others_in_use : {T R : Type 0} → ModelState T R → ℕ → Bool
+others_in_use st s = list_any (λ slot. not (is_free slot.kind)) (slice_set st.slots s unmade_slot)
+
+-- what the slots that ended left, and then the batch of s
+abbrev pub rest_and_batch : {T R : Type 0} → ModelState T R → ℕ → List (T × R)
+rest_and_batch st s = st.rest ++ (model_slot st s).batch
+
+-- all that was left is in the batch of s
+abbrev pub with_rest_gathered : {T R : Type 0} → ModelState T R → ℕ → ModelState T R
+with_rest_gathered st s = record (set_slot st s (record (model_slot st s) { batch = rest_and_batch st s })) { rest = [] }
+
+-- s attempts all that was left
+abbrev pub gathering : {T R : Type 0} → (R → T → List T) → (T → ℕ) → ModelState T R → ℕ → StateAndGone T R
+gathering puts weight st s = with_further puts weight s (attempt (with_rest_gathered st s) s)
+
+-- and so while no other slot is in use and something is left, for at most this many times
+abbrev pub gathers : {T R : Type 0} → (R → T → List T) → (T → ℕ) → ℕ → ModelState T R → ℕ → StateAndGone T R
+gathers puts weight zero st s = (st, [])
+gathers puts weight (suc n) st s =
+    if others_in_use st s || (length (rest_and_batch st s) == 0)
+    then (st, [])
+    else (let o = gathering puts weight st s in with_gone o.1 (gathers puts weight n o.0 s))
+
+-- the number is not in use, and what the slot had in its batch is left
 abbrev pub with_number_free : {T R : Type 0} → ModelState T R → ℕ → ModelState T R
-with_number_free st s = set_slot st s (record (model_slot st s) { kind = Free; guards = 0 })
+with_number_free st s = record (set_slot st s unmade_slot) { rest = rest_and_batch st s }
+
+-- **Give back.** The last slot in use attempts all that was left first.
+abbrev pub give_back : {T R : Type 0} → (R → T → List T) → (T → ℕ) → ModelState T R → ℕ → StateAndGone T R
+give_back puts weight st s =
+    let o = gathers puts weight (sum_by (λ v. weight v.0) (rest_and_batch st s)) st s in
+    (with_number_free o.0 s, o.1)
 
 -- **End.** The number is given back, and the answer says whether it was: a forgotten guard keeps it.
-abbrev pub end_slot : {T R : Type 0} → ModelState T R → ℕ → Response Bool T R
-end_slot st s =
+abbrev pub end_slot : {T R : Type 0} → (R → T → List T) → (T → ℕ) → ModelState T R → ℕ → Response Bool T R
+end_slot puts weight st s =
     unless (not_registered st s) st
-    (if has_guard (model_slot st s) then (Ok false, (st, [])) else (Ok true, (with_number_free st s, [])))
+    (if has_guard (model_slot st s) then (Ok false, (st, [])) else (Ok true, give_back puts weight st s))
 
 -- the slot has one guard less, and parts if it was the last one
 abbrev pub one_guard_less : {T R : Type 0} → ModelState T R → ℕ → StateAndGone T R
@@ -100,14 +136,14 @@ one_guard_less st s =
     else (set_guards st s ((model_slot st s).guards - 1), [])
 
 -- the number of an owned slot is given back at the end
-abbrev pub with_number_free_if : {T R : Type 0} → Bool → ℕ → StateAndGone T R → StateAndGone T R
-with_number_free_if owned s o = ((if owned then with_number_free o.0 s else o.0), o.1)
+abbrev pub given_back_if : {T R : Type 0} → (R → T → List T) → (T → ℕ) → Bool → ℕ → StateAndGone T R → StateAndGone T R
+given_back_if puts weight owned s o = if owned then with_gone o.1 (give_back puts weight o.0 s) else o
 
 -- **Leave.**
 abbrev pub leave : {T R : Type 0} → (R → T → List T) → (T → ℕ) → ModelState T R → ℕ → Response (Unit {0}) T R
 leave puts weight st s =
     unless (no_guard st s) st
-    (Ok tt, with_number_free_if (is_owned (model_slot st s).kind) s (with_further puts weight s (one_guard_less st s)))
+    (Ok tt, given_back_if puts weight (is_owned (model_slot st s).kind) s (with_further puts weight s (one_guard_less st s)))
 
 -- the slot parts if it is owned or has one guard, and stays active
 abbrev pub part_if_alone : {T R : Type 0} → ModelState T R → ℕ → StateAndGone T R
@@ -147,20 +183,18 @@ swap st s link new =
 
 -- Reclaim all.
 
--- each of these slots parts, becomes inactive, and gives its number back
+-- each of these slots becomes inactive and parts
 abbrev pub part_all : {T R : Type 0} → ModelState T R → List ℕ → StateAndGone T R
 part_all st [] = (st, [])
 part_all st (s ∷ ss) =
     let o = part st s in
-    with_gone o.1 (part_all (with_number_free o.0 s) ss)
+    with_gone o.1 (part_all (set_guards o.0 s 0) ss)
 
-abbrev pub without_batch : {T R : Type 0} → ModelSlot T R → ModelSlot T R
-without_batch slot = record slot { batch = [] }
-
--- **Reclaim all.** Every slot parts, in order of numbers; then each slot's batch is gone, in order of numbers; then what all those
--- values put, until nothing is queued. No retired batch is left. Links stay as they are.
+-- **Reclaim all.** Every slot parts, in order of numbers; then each slot's batch is gone, in order of numbers, and then what was left;
+-- then what all those values put, until nothing is queued. No number is in use then, and no retired batch is left. Links stay as they
+-- are.
 abbrev pub reclaim_all : {T R : Type 0} → (R → T → List T) → (T → ℕ) → ModelState T R → StateAndGone T R
 reclaim_all puts weight st =
     let o = part_all st (range_with_len 0 (length st.slots)) in
-    let gone = o.1 ++ flat_map (λ slot. slot.batch) o.0.slots in
-    (record o.0 { slots = map without_batch o.0.slots; retired = [] }, gone ++ gone_from puts weight (further puts gone))
+    let gone = o.1 ++ flat_map (λ slot. slot.batch) o.0.slots ++ o.0.rest in
+    (record o.0 { slots = map (λ slot. unmade_slot) o.0.slots; retired = []; rest = [] }, gone ++ gone_from puts weight (further puts gone))

@@ -1,8 +1,12 @@
 -- What follows from the definitions of the calls.
-use Rattle.std.specs.Prelude.{◌≡◌, ℕ, ◌<◌, true, max, List, [], length}
-use Rattle.seize_model.specs.Waiting.State.{ModelState, model_slot, has_guard, new}
-use Rattle.seize_model.specs.Waiting.Calls.{flush, retire}
+use Rattle.std.specs.Prelude.{◌≡◌, ◌≢◌, ℕ, ◌<◌, ◌*◌, ◌⊎◌, true, false, max, List, [], ◌++◌, length}
+use Rattle.std.specs.List.{sum_by}
+use Rattle.seize_model.specs.Waiting.State.{ModelState, model_slot, retired_at, has_guard, new}
+use Rattle.seize_model.specs.Waiting.Attempt.{with_gone}
+use Rattle.seize_model.specs.Waiting.Further.{further, gone_from}
+use Rattle.seize_model.specs.Waiting.Calls.{flush, retire, is_free, others_in_use, rest_and_batch, gathering, give_back, with_number_free}
 use Rattle.seize_model.specs.Waiting.Lists.{Call, run}
+use Rattle.seize_model.specs.Waiting.Reached.{Reached}
 
 -- **Flushes.** No value is gone in a flush.
 abbrev pub FlushLaw : {T R : Type 0} → (R → T → List T) → (T → ℕ) → Type 0
@@ -18,8 +22,46 @@ RetireLaw {T} {R} puts weight =
 abbrev pub batch_bound : {T R : Type 0} → ModelState T R → ℕ
 batch_bound st = max (max 1 st.size) (length st.slots)
 
--- **Bound.** Between calls each batch is below the bound, where the size stays as the collector was made.
+-- **Bound.** Between calls each batch is below the bound, where the size stays as the collector was made. And what slots that ended
+-- left is below that bound times the number of slots ever made.
 abbrev pub BoundLaw : {T R : Type 0} → (R → T → List T) → (T → ℕ) → Type 0
 BoundLaw {T} {R} puts weight =
-    (size links : ℕ) (calls : List (Call T R)) (s : ℕ)
-    → length (model_slot (run puts weight (new size links) calls).1.0 s).batch < batch_bound (run puts weight (new size links) calls).1.0
+    (size links : ℕ) (calls : List (Call T R)) → (
+    let st = (run puts weight (new size links) calls).1.0 in
+    ((s : ℕ) → length (model_slot st s).batch < batch_bound st)
+    × ((st.rest ≡ []) ⊎ (length st.rest < batch_bound st * length st.slots))
+    )
+
+-- **Last end.** Where no other number is in use and s has no guard, all that was left is gone as the number of s is given back: what the
+-- slots that ended left, then the batch of s, and then what those values put, in turn.
+abbrev pub LastEndLaw : {T R : Type 0} → (R → T → List T) → (T → ℕ) → Type 0
+LastEndLaw {T} {R} puts weight =
+    (st : ModelState T R) (s : ℕ) → Reached puts weight st
+    → is_free (model_slot st s).kind ≡ false → has_guard (model_slot st s) ≡ false → others_in_use st s ≡ false
+    → (give_back puts weight st s).1 ≡ rest_and_batch st s ++ gone_from puts weight (further puts (rest_and_batch st s))
+
+-- **Unused.** Where no number is in use, all that was retired is gone.
+abbrev pub UnusedLaw : {T R : Type 0} → (R → T → List T) → (T → ℕ) → Type 0
+UnusedLaw {T} {R} puts weight =
+    (st : ModelState T R) → Reached puts weight st → ((s : ℕ) → is_free (model_slot st s).kind ≡ true)
+    → (st.rest ≡ []) × ((s : ℕ) → (model_slot st s).batch ≡ []) × ((b : ℕ) → retired_at st b ≡ [])
+
+-- the number of s goes back at once
+abbrev pub EndsNow : {T R : Type 0} → ModelState T R → ℕ → Type 0
+EndsNow st s = (others_in_use st s ≡ true) ⊎ (rest_and_batch st s ≡ [])
+
+-- or s gathers first
+abbrev pub GathersFirst : {T R : Type 0} → ModelState T R → ℕ → Type 0
+GathersFirst st s = (others_in_use st s ≡ false) × (rest_and_batch st s ≢ [])
+
+-- **Giving back.** Where the number of s goes back at once, nothing is gone. Where s gathers first, this is a gathering, and then what is
+-- given back from the state after it, where what is left weighs less: so it is where s is in use without a guard, no free slot has one, and
+-- no batch waits for a slot without one.
+abbrev pub GivingLaw : {T R : Type 0} → (R → T → List T) → (T → ℕ) → Type 0
+GivingLaw {T} {R} puts weight =
+    (st : ModelState T R) (s : ℕ) → (EndsNow st s → give_back puts weight st s ≡ (with_number_free st s, []))
+    × (is_free (model_slot st s).kind ≡ false → has_guard (model_slot st s) ≡ false
+    → ((t : ℕ) → is_free (model_slot st t).kind ≡ true → has_guard (model_slot st t) ≡ false)
+    → ((t : ℕ) → has_guard (model_slot st t) ≡ false → (model_slot st t).order ≡ []) → GathersFirst st s
+    → let o = gathering puts weight st s in (give_back puts weight st s ≡ with_gone o.1 (give_back puts weight o.0 s))
+    × (sum_by (λ v. weight v.0) (rest_and_batch o.0 s) < sum_by (λ v. weight v.0) (rest_and_batch st s)))

@@ -60,11 +60,11 @@ retire_old puts weight s new reclaim (Ok (Some v)) o = reply done_reply (Some v)
 
 -- **One call.**
 abbrev pub step : {T R : Type 0} → (R → T → List T) → (T → ℕ) → ModelState T R → Call T R → Effect T R
-step puts weight st Register = reply Number None (take_number st Registered 0)
-step puts weight st EnterOwned = reply Number None (take_number st Owned 1)
+step puts weight st Register = reply Number None (take_number puts weight st Registered 0)
+step puts weight st EnterOwned = reply Number None (take_number puts weight st Owned 1)
 step puts weight st (Enter s) = reply done_reply None (enter st s)
 step puts weight st (Leave s) = reply done_reply None (leave puts weight st s)
-step puts weight st (End s) = reply end_reply None (end_slot st s)
+step puts weight st (End s) = reply end_reply None (end_slot puts weight st s)
 step puts weight st (Refresh s) = reply done_reply None (refresh puts weight st s)
 step puts weight st (Flush s) = reply done_reply None (flush puts weight st s)
 step puts weight st (Retire s v r) = reply done_reply (Some v) (retire puts weight st s v r)

@@ -201,7 +201,25 @@ inherited_batch =
     Calls (Register ∷ gives 0 1 ∷ End 0 ∷ []) ∷ Calls (EnterOwned ∷ gives 0 2 ∷ gives 0 3 ∷ []) ∷ Calls (Leave 0 ∷ []) ∷ []
 
 abbrev pub inherited_batch_told : List Telling
-inherited_batch_told = ([], Number 0 ∷ dones 2) ∷ ([], Number 0 ∷ dones 2) ∷ (1 ∷ 2 ∷ 3 ∷ [], dones 1) ∷ []
+inherited_batch_told = (1 ∷ [], Number 0 ∷ dones 2) ∷ ([], Number 0 ∷ dones 2) ∷ (2 ∷ 3 ∷ [], dones 1) ∷ []
+
+-- **Rest.** What two slots left is handed as the last one ends, in the order in which they ended, and then its own batch; further values
+-- in turn: 12 puts 13 and 14, and 13 puts 15.
+abbrev pub rest_gathered : List Group
+rest_gathered =
+    Calls (Register ∷ Register ∷ EnterOwned ∷ gives 0 5 ∷ gives 1 12 ∷ gives 2 7 ∷ End 1 ∷ End 0 ∷ []) ∷ Calls (Leave 2 ∷ []) ∷ []
+
+abbrev pub rest_gathered_told : List Telling
+rest_gathered_told = ([], Number 0 ∷ Number 1 ∷ Number 2 ∷ dones 5) ∷ (12 ∷ 5 ∷ 7 ∷ 13 ∷ 14 ∷ 15 ∷ [], dones 1) ∷ []
+
+-- **Taken.** Who takes a number takes what was left, and attempts it where it is enough.
+abbrev pub rest_taken : List Group
+rest_taken =
+    Calls (Register ∷ Register ∷ Register ∷ gives 0 1 ∷ gives 1 2 ∷ gives 2 3 ∷ End 1 ∷ End 0 ∷ []) ∷ Calls (EnterOwned ∷ [])
+    ∷ Calls (Leave 0 ∷ End 2 ∷ []) ∷ []
+
+abbrev pub rest_taken_told : List Telling
+rest_taken_told = ([], Number 0 ∷ Number 1 ∷ Number 2 ∷ dones 5) ∷ (2 ∷ 1 ∷ [], Number 0 ∷ []) ∷ (3 ∷ [], dones 2) ∷ []
 
 -- **Refused.** A number not in use, a slot without a guard, an owned slot.
 abbrev pub refusals : List Group

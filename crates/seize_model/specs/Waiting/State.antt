@@ -24,10 +24,12 @@ pub record ModelState (T R : Type 0) : Type 0 where
   pub retired : List (List (T × R))
   -- what each link holds
   pub links : List (Option T)
+  -- what the slots that ended left in their batches, in order
+  pub rest : List (T × R)
 
 -- a collector just made: this size, this many empty links, and no slot
 abbrev pub new : {T R : Type 0} → ℕ → ℕ → ModelState T R
-new size links = record { size = size; slots = []; retired = []; links = replicate links None }
+new size links = record { size = size; slots = []; retired = []; links = replicate links None; rest = [] }
 
 -- stands for a slot that was never made
 abbrev pub unmade_slot : {T R : Type 0} → ModelSlot T R

@@ -1,7 +1,7 @@
 //! The reclaimer of a call by which all is reclaimed: it tells the watch of each value, and then gives it to the collector's own. What that
 //! puts waits in a queue, so that the call which hands a value retires none of it.
 ghost use base.Stored.{Gv, gnil};
-ghost use Rattle.std.specs.Prelude.{◌≡◌, ◌∷◌, [], Bool, ℕ, List};
+ghost use Rattle.std.specs.Prelude.{◌≡◌, ◌∷◌, [], true, Bool, ℕ, List};
 ghost use Rattle.std.proofs.Common.{sym, ◌∙◌};
 ghost use Rattle.seize_book.specs.Kept.{kepts_of};
 ghost use Rattle.seize_book.specs.Tokens.{IsSole};
@@ -11,7 +11,8 @@ ghost use Rattle.seize_calls.specs.Aparts.{without_puts};
 ghost use Rattle.seize_calls.specs.Furthers.{further_in};
 ghost use Rattle.seize_calls.specs.Handing.{Had, IsServed};
 ghost use Rattle.seize_calls.specs.Slots.{HasActivation, IsActive, IsItsHead, IsPassFor, IsSlotOf, KeepsActivation, MayEnterWith};
-ghost use Rattle.seize_calls.specs.Slots.{SlotFlushes, SlotLeaves};
+ghost use Rattle.seize_calls.specs.Slots.{IsTakenAs, SlotFlushes, SlotLeaves, SlotResumes, its_key};
+ghost use Rattle.seize_book.specs.Slots.{active_of};
 ghost use Rattle.seize_alone.specs.Gone.{PutAs};
 ghost use Rattle.seize_parts.specs.Aparts.{DidApart, IsBehind, KeepsAside};
 ghost use Rattle.seize_parts.specs.Enders.{IsEnderIn, IsEnderOf};
@@ -212,6 +213,58 @@ pub(crate) fn flush_into<T: Drop, R: Reclaim<T>, W: Watch<T>>(
         begun: PhantomData,
     };
     flush_apart::<Brand, T, R, W>(words, slot, &mut apart, pass);
+    // It is taken apart, and so what the watch has seen is known, and what waits.
+    let Apart {
+        forwards: _forwards,
+        aside: _aside,
+        begun: _,
+    } = apart;
+}
+
+/// The slot goes on with its call, by a reclaimer that tells the watch. What is put waits in the queue.
+pub(crate) fn resume_apart<B: Waited, T: Drop, R: Reclaim<T>, W: Watch<T>>(
+    words: &Words<T>,
+    slot: &mut Slot<T>,
+    apart: &mut Apart<'_, '_, Forwards<'_, T, R>, W, B>,
+    pass: &mut Pass,
+)
+    requires of { IsTakenAs true words.now slot.old × IsPassFor words.now pass.old × IsSole pass.old.id }
+    requires new { (apart.old.forwards.ends.had ≡ []) × IsEnderOf words.now apart.old.forwards.ender.now }
+    requires watch { (apart.old.aside.ghost_name ≡ B.name) × (apart.old.aside.now.watch.ghost_name ≡ B.watch)
+        × (W.coded.code (W.seen apart.old.aside.now.watch.now) ≡ B.first) }
+    requires queue { let queue = apart.old.aside.now.queue in
+        IsServed (further_in queue) (words_book words.now)
+        × (values_of (further_in queue) ≡ B.values) × (kepts_of (further_in queue) ≡ B.words) }
+    ensures same { (apart.new.aside.ghost_name ≡ apart.old.aside.ghost_name) × KeepsAside apart.old.aside.now apart.new.aside.now }
+    ensures of { IsSlotOf words.now slot.new × (active_of (its_key slot.new) ≡ active_of (its_key slot.old)) }
+    ensures resumes { (had : Had) × SlotResumes slot.old pass.old [] slot.new pass.new (without_puts had)
+        × DidApart T.row.coded.code R.puts W.told W.seen (words_book words.now) had apart.old.aside.now apart.new.aside.now }
+{
+    slot.resume(words, apart, pass, &Alone {});
+}
+
+/// The slot goes on with the call that a take began, as `leave_into` leaves.
+pub(crate) fn resume_into<T: Drop, R: Reclaim<T>, W: Watch<T>>(
+    words: &Words<T>,
+    ender: &Ender<T, R>,
+    slot: &mut Slot<T>,
+    aside: &mut Aside<'_, W>,
+    pass: &mut Pass,
+)
+    requires of { IsTakenAs true words.now slot.old × IsPassFor words.now pass.old × IsSole pass.old.id }
+    requires ender { IsEnderOf words.now ender.now }
+    requires queue { IsServed (further_in aside.old.queue) (words_book words.now) }
+    ensures same { KeepsAside aside.old aside.new }
+    ensures of { IsSlotOf words.now slot.new × (active_of (its_key slot.new) ≡ active_of (its_key slot.old)) }
+    ensures resumes { (had : Had) × SlotResumes slot.old pass.old [] slot.new pass.new (without_puts had)
+        × DidApart T.row.coded.code R.puts W.told W.seen (words_book words.now) had aside.old aside.new }
+{
+    let mut apart = Apart {
+        forwards: Forwards::new(ender),
+        aside: &mut *aside,
+        begun: PhantomData,
+    };
+    resume_apart::<Brand, T, R, W>(words, slot, &mut apart, pass);
     // It is taken apart, and so what the watch has seen is known, and what waits.
     let Apart {
         forwards: _forwards,

@@ -11,7 +11,8 @@ ghost use Rattle.seize_alone.specs.Events.{MakesAlone};
 ghost use Rattle.seize_alone.specs.Gone.{PutAs};
 ghost use Rattle.seize_calls.specs.Handing.{Had};
 ghost use Rattle.seize_calls.specs.Slots.{HasActivation, IsActive, IsItsHead, IsLooseOf, IsPassFor, IsSlotOf, KeepsActivation};
-ghost use Rattle.seize_calls.specs.Slots.{MayEnterWith, SlotFlushes, SlotLeaves, SlotRefreshes, SlotRetires, its_number};
+ghost use Rattle.seize_calls.specs.Slots.{IsTakenAs, MayEnterWith, SlotFlushes, SlotLeaves, SlotRefreshes, SlotResumes, SlotRetires, its_key, its_number};
+ghost use Rattle.seize_book.specs.Slots.{active_of};
 ghost use Rattle.seize_words.specs.Joined.{words_book};
 ghost use Rattle.seize_words.specs.declared.activation.Activation.{Activation};
 ghost use Rattle.seize_parts.specs.Enders.{IsEnderOf};
@@ -290,6 +291,75 @@ fn retire_in<T: Drop, R: Reclaim<T>, W: Watch<T>>(
         watch: _watch,
         begun: _,
     } = tells;
+}
+
+// The slot goes on with its call, by a reclaimer that tells the watch.
+fn resume_telling<B: Begun, T: Drop, R: Reclaim<T>, W: Watch<T>>(
+    words: &Words<T>,
+    slot: &mut Slot<T>,
+    tells: &mut Tells<'_, Forwards<'_, T, R>, W, B>,
+    pass: &mut Pass,
+)
+    requires of { IsTakenAs true words.now slot.old × IsPassFor words.now pass.old × IsSole pass.old.id }
+    requires new { (tells.old.forwards.ends.had ≡ []) × IsEnderOf words.now tells.old.forwards.ender.now }
+    requires begun { (tells.old.watch.ghost_name ≡ B.name) × (W.coded.code (W.seen tells.old.watch.now) ≡ B.first) }
+    ensures same_reference { tells.new.watch.ghost_name ≡ tells.old.watch.ghost_name }
+    ensures of { IsSlotOf words.now slot.new × (active_of (its_key slot.new) ≡ active_of (its_key slot.old)) }
+    ensures resumes { (had : Had) × SlotResumes slot.old pass.old [] slot.new pass.new had × PutAs T.row.coded.code R.puts had
+        × HasTold T.row.coded.code W.told (W.seen tells.old.watch.now) (W.seen tells.new.watch.now) had }
+{
+    slot.resume(words, tells, pass, &Alone {});
+}
+
+/// The slot goes on with the call that a take or a gathering began. The watch is told of each value that is gone.
+pub fn resume_in<T: Drop, R: Reclaim<T>, W: Watch<T>>(
+    words: &Words<T>,
+    ender: &Ender<T, R>,
+    slot: &mut Slot<T>,
+    pass: &mut Pass,
+    watch: &mut W,
+)
+    requires of { IsTakenAs true words.now slot.old × IsPassFor words.now pass.old × IsSole pass.old.id }
+    requires ender { IsEnderOf words.now ender.now }
+    ensures of { IsSlotOf words.now slot.new × (active_of (its_key slot.new) ≡ active_of (its_key slot.old)) }
+    ensures resumes { (had : Had) × SlotResumes slot.old pass.old [] slot.new pass.new had × PutAs T.row.coded.code R.puts had
+        × HasTold T.row.coded.code W.told (W.seen watch.old) (W.seen watch.new) had }
+    ensures same_reference { watch.exit.ghost_name ≡ watch.entry.ghost_name }
+{
+    let mut tells = Tells {
+        forwards: Forwards::new(ender),
+        watch: &mut *watch,
+        begun: PhantomData,
+    };
+    resume_telling::<Brand, T, R, W>(words, slot, &mut tells, pass);
+    // It is taken apart, and so what the watch has seen is known.
+    let Tells {
+        forwards: _forwards,
+        watch: _watch,
+        begun: _,
+    } = tells;
+}
+
+/// What a slot that took its number found left is attempted, where a call has begun for it. The watch is told of each value that is gone.
+pub fn attempt_taken<T: Drop, R: Reclaim<T>, W: Watch<T>>(
+    words: &Words<T>,
+    ender: &Ender<T, R>,
+    slot: &mut Slot<T>,
+    begun: bool,
+    pass: &mut Pass,
+    watch: &mut W,
+)
+    requires of { IsTakenAs begun words.now slot.old × IsPassFor words.now pass.old × IsSole pass.old.id }
+    requires ender { IsEnderOf words.now ender.now }
+    ensures of { IsSlotOf words.now slot.new × (active_of (its_key slot.new) ≡ active_of (its_key slot.old)) }
+    ensures resumes { begun ≡ true → (had : Had) × SlotResumes slot.old pass.old [] slot.new pass.new had
+        × PutAs T.row.coded.code R.puts had × HasTold T.row.coded.code W.told (W.seen watch.old) (W.seen watch.new) had }
+    ensures none { begun ≡ false → (slot.new ≡ slot.old) × (pass.new ≡ pass.old) × (W.seen watch.new ≡ W.seen watch.old) }
+    ensures same_reference { watch.exit.ghost_name ≡ watch.entry.ghost_name }
+{
+    if begun {
+        resume_in(words, ender, slot, pass, watch);
+    }
 }
 
 impl<T: Drop> Place<T> {

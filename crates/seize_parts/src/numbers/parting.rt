@@ -1,23 +1,20 @@
-//! Each slot in use leaves with its last guard, where it has any, and its number goes back, by a pass that is alone. A watch is told of
-//! each value that goes, and what the reclaimer puts waits in a queue.
-ghost use Rattle.std.specs.Prelude.{◌≡◌, ◌<◌, ℕ, None, false, get_or, length, slice_set, true};
+//! Each slot in use leaves with its last guard, where it has any, and is kept, by a pass that is alone. A watch is told of each value that
+//! goes, and what the reclaimer puts waits in a queue.
+ghost use Rattle.std.specs.Prelude.{◌≡◌, ◌<◌, ℕ, None, Some, false, get_or, length, slice_set};
 ghost use Rattle.std.specs.List.{range_with_len};
 ghost use Rattle.seize_book.specs.Tokens.{IsSole};
 ghost use Rattle.seize_words.specs.Joined.{words_book};
-ghost use Rattle.seize_machine.specs.Machine.Event.{Give};
-ghost use Rattle.seize_machine.specs.declared.machine.event.Answer.{Answer};
 ghost use Rattle.seize_model.specs.Waiting.Calls.{is_free, one_guard_less};
 ghost use Rattle.seize_model.specs.Waiting.State.{ModelState, model_slot};
-ghost use Rattle.seize_calls.specs.Furthers.{further_in};
-ghost use Rattle.seize_calls.specs.Handing.{IsServed};
 ghost use Rattle.seize_calls.specs.Slots.{IsInactive, IsPassFor, IsSlotOf, its_number};
-ghost use Rattle.seize_alone.specs.Events.{MakesAlone};
+ghost use Rattle.seize_calls.specs.declared.slot.Slot.{Slot as ASlot};
 ghost use Rattle.seize_alone.specs.Reclaiming.{last_guard_left, part_in_turn, parts_in_turn};
-ghost use Rattle.seize_parts.specs.Aparts.{Fits, Goes, IsIn, IsSomeHeld, KeepsAside, MayGo};
+ghost use Rattle.seize_parts.specs.Aparts.{AreKeptOf, Fits, Goes, IsIn, MovesToKept, IsSomeHeld, KeepsAside, MayDrain, MayGo, MayPart};
 ghost use Rattle.seize_parts.specs.Enders.{IsEnderOf};
-ghost use Rattle.seize_parts.specs.Numbers.{AreNumbers};
+ghost use Rattle.seize_parts.specs.Numbers.{AreNumbers, AreSlots};
 ghost use Rattle.seize_parts.specs.Places.{IsOnly};
 ghost use Rattle.seize_parts.specs.Reservations.{IsReservation, IsUnit};
+ghost use Rattle.seize_parts.specs.Sweeps.{KeepsFree};
 
 use crate::alone::apart::leave_into;
 use crate::alone::aside::Aside;
@@ -42,8 +39,8 @@ fn leave_last<T: Drop, R: Reclaim<T>, W: Watch<T>>(
     requires r { IsReservation r.old × IsOnly words.now r.old pass.old }
     requires unit { IsUnit (words_book words.now) (its_number r.old.slot) unit.unit unit.seen }
     requires ender { IsEnderOf words.now ender.now }
-    requires queue { IsServed (further_in aside.old.queue) (words_book words.now) }
-    ensures same { KeepsAside aside.old aside.new }
+    requires queue { MayDrain T.row.coded.code (words_book words.now) aside.old.queue }
+    ensures aside { KeepsAside aside.old aside.new × MayDrain T.row.coded.code (words_book words.now) aside.new.queue }
     ensures slot { IsSlotOf words.now r.new.slot × IsInactive r.new.slot × (its_number r.new.slot ≡ its_number r.old.slot) }
     ensures goes { let s = its_number r.old.slot in Goes T.row.coded.code R.puts W.told
         (λ st. Fits pass.old st × (is_free (model_slot st s).kind ≡ false) × ((model_slot st s).guards ≡ 1)) (λ st. one_guard_less st s)
@@ -72,8 +69,8 @@ fn part<T: Drop, R: Reclaim<T>, W: Watch<T>>(
     requires pass { IsPassFor words.now pass.old × IsSole pass.old.id }
     requires held { IsSomeHeld T.row.coded.code pass.old (IsIn pass.old _s place) }
     requires ender { IsEnderOf words.now ender.now }
-    requires queue { IsServed (further_in aside.old.queue) (words_book words.now) }
-    ensures same { KeepsAside aside.old aside.new }
+    requires queue { MayDrain T.row.coded.code (words_book words.now) aside.old.queue }
+    ensures aside { KeepsAside aside.old aside.new × MayDrain T.row.coded.code (words_book words.now) aside.new.queue }
     ensures slot { IsSlotOf words.now result × IsInactive result × (its_number result ≡ _s) }
     ensures goes { Goes T.row.coded.code R.puts W.told (IsIn pass.old _s place) (λ st. last_guard_left st _s)
         pass.old pass.new (W.seen aside.old.watch.now) (W.seen aside.new.watch.now) aside.old.queue aside.new.queue }
@@ -95,8 +92,8 @@ fn part<T: Drop, R: Reclaim<T>, W: Watch<T>>(
 }
 
 impl<T: Drop> Numbers<T> {
-    /// Each slot leaves with its last guard, where it has any, and its number goes back, in order of numbers. Nothing lies in any place
-    /// then. It takes no memory and waits for nobody, but for what watch and reclaimer do.
+    /// Each slot leaves with its last guard, where it has any, in order of numbers, and is kept. Nothing lies in any place then. It takes
+    /// no memory and waits for nobody, but for what watch and reclaimer do.
     pub(super) fn part_all<R: Reclaim<T>, W: Watch<T>>(
         &mut self,
         words: &Words<T>,
@@ -106,15 +103,14 @@ impl<T: Drop> Numbers<T> {
         pass: &mut Pass,
     )
         requires numbers { AreNumbers self.old × (self.old.book.name ≡ words_book words.now) }
-        requires pass { IsPassFor words.now pass.old × IsSole pass.old.id }
+        requires pass { IsPassFor words.now pass.old × IsSole pass.old.id × IsEnderOf words.now ender.now }
         requires held { IsSomeHeld T.row.coded.code pass.old (MayGo pass.old places.old.items) }
-        requires ender { IsEnderOf words.now ender.now }
-        requires queue { IsServed (further_in aside.old.queue) (words_book words.now) }
-        ensures same { KeepsAside aside.old aside.new }
-        ensures numbers { AreNumbers self.new × (self.new.book ≡ self.old.book) }
+        requires queue { MayDrain T.row.coded.code (words_book words.now) aside.old.queue }
+        ensures aside { KeepsAside aside.old aside.new × MayDrain T.row.coded.code (words_book words.now) aside.new.queue }
+        ensures numbers { AreSlots self.new × KeepsFree self.old self.new }
         ensures places { (s : ℕ) → get_or places.new.items s None ≡ None }
-        ensures free { (st : ModelState T ℕ) → MayGo pass.old places.old.items st → (s : ℕ)
-            → is_free (model_slot (parts_in_turn st (range_with_len 0 (length st.slots))).0 s).kind ≡ true }
+        ensures kept { (st : ModelState T ℕ) → MayGo pass.old places.old.items st
+            → AreKeptOf self.new.kept.items (parts_in_turn st (range_with_len 0 (length st.slots))).0 }
         ensures goes { Goes T.row.coded.code R.puts W.told (MayGo pass.old places.old.items)
             (λ st. parts_in_turn st (range_with_len 0 (length st.slots))) pass.old pass.new
             (W.seen aside.old.watch.now) (W.seen aside.new.watch.now) aside.old.queue aside.new.queue }
@@ -124,7 +120,7 @@ impl<T: Drop> Numbers<T> {
         }
     }
 
-    // The slot in this place leaves with its last guard, where it has any, and its number goes back.
+    // The slot in this place leaves with its last guard, where it has any, and is kept.
     fn part_at<R: Reclaim<T>, W: Watch<T>>(
         &mut self,
         words: &Words<T>,
@@ -134,33 +130,35 @@ impl<T: Drop> Numbers<T> {
         aside: &mut Aside<'_, W>,
         pass: &mut Pass,
     )
-        requires numbers { AreNumbers self.old × (self.old.book.name ≡ words_book words.now) }
-        requires pass { IsPassFor words.now pass.old × IsSole pass.old.id }
-        requires held { IsSomeHeld T.row.coded.code pass.old (MayGo pass.old places.old.items) × (n < length places.old.items) }
-        requires ender { IsEnderOf words.now ender.now }
-        requires queue { IsServed (further_in aside.old.queue) (words_book words.now) }
-        ensures same { KeepsAside aside.old aside.new }
-        ensures numbers { AreNumbers self.new × (self.new.book ≡ self.old.book) }
+        requires numbers { AreSlots self.old × (self.old.book.name ≡ words_book words.now) }
+        requires pass { IsPassFor words.now pass.old × IsSole pass.old.id × IsEnderOf words.now ender.now }
+        requires held { IsSomeHeld T.row.coded.code pass.old (MayPart pass.old n places.old.items) × (n < length places.old.items) }
+        requires queue { MayDrain T.row.coded.code (words_book words.now) aside.old.queue }
+        ensures aside { KeepsAside aside.old aside.new × MayDrain T.row.coded.code (words_book words.now) aside.new.queue }
+        ensures numbers { AreSlots self.new × KeepsFree self.old self.new }
         ensures places { places.new.items ≡ slice_set places.old.items n None }
-        ensures goes { Goes T.row.coded.code R.puts W.told (MayGo pass.old places.old.items) (λ st. part_in_turn st n)
+        ensures kept { MovesToKept n places.old.items self.old.kept.items self.new.kept.items }
+        ensures goes { Goes T.row.coded.code R.puts W.told (MayPart pass.old n places.old.items) (λ st. part_in_turn st n)
             pass.old pass.new (W.seen aside.old.watch.now) (W.seen aside.new.watch.now) aside.old.queue aside.new.queue }
     {
         if let Some(place) = places[n].take() {
             let slot = part(words, ender, n, place, aside, pass);
-            self.give_back(words, n, slot, pass);
+            self.keep(words, n, slot, pass);
         }
     }
 
-    // The number of the slot goes back.
-    fn give_back(&mut self, words: &Words<T>, n: usize, slot: Slot<T>, pass: &mut Pass)
-        requires numbers { AreNumbers self.old × (self.old.book.name ≡ words_book words.now) }
+    // The slot is kept. Its key and that of the numbers know the same list then, so it has a place here.
+    fn keep(&mut self, words: &Words<T>, n: usize, slot: Slot<T>, pass: &mut Pass)
+        requires numbers { AreSlots self.old × (self.old.book.name ≡ words_book words.now) }
         requires pass { IsPassFor words.now pass.old × IsSole pass.old.id }
         requires slot { IsSlotOf words.now slot × IsInactive slot × (its_number slot ≡ n) }
-        ensures numbers { AreNumbers self.new × (self.new.book ≡ self.old.book) }
-        ensures gives { (answer : Answer) × MakesAlone pass.old pass.new (Give n) answer }
+        ensures still { pass.new ≡ pass.old }
+        ensures numbers { AreSlots self.new × KeepsFree self.old self.new }
+        ensures kept { (s : ASlot T) × (n < length self.old.kept.items) × (self.new.kept.items ≡ slice_set self.old.kept.items n (Some s)) }
     {
         let mut slot = slot;
-        slot.give(words, &mut self.key, pass);
-        self.slots[n] = Some(slot);
+        self.key.look(pass);
+        slot.look(words, pass);
+        self.kept[n] = Some(slot);
     }
 }

@@ -3,7 +3,7 @@ use super::*;
 use std::io::Write;
 
 /// Each row with what it prints; those with numbered values have tests of their own.
-const ROWS: [(&str, &str); 13] = [
+const ROWS: [(&str, &str); 17] = [
     ("single", "slot 0; --; gone a; gone b"),
     (
         "reentrant",
@@ -40,7 +40,14 @@ const ROWS: [(&str, &str); 13] = [
         "crowd",
         "slot 0; slot 1; slot 2; slot 3; slot 4; --; gone v1; gone v2; gone v3; gone v4; gone v5",
     ),
-    ("left", "slot 0; --; slot 0; --; gone a; gone b; gone c"),
+    ("left", "gone a; slot 0; --; slot 0; --; gone b; gone c"),
+    ("rest", "slot 0; slot 1; slot 0; --; gone b; gone a; gone c"),
+    (
+        "taken",
+        "slot 0; slot 1; slot 2; --; gone a; gone b; slot 0",
+    ),
+    ("last", "slot 0; --; gone p; gone q; gone r; gone s"),
+    ("held", "slot 0; slot 1; kept; slot 0; --; gone a"),
 ];
 
 #[test]

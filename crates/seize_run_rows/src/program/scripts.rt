@@ -6,7 +6,7 @@ use std::io::Write;
 const SCRIPT: [&str; 1] = ["script"];
 
 /// Scripts that run, as lines, and what they print.
-const GOOD: [(&str, &str); 11] = [
+const GOOD: [(&str, &str); 15] = [
     ("size 1 links 0", ""),
     ("size 18446744073709551615 links 1024", ""),
     ("; ; size 1 links 0; ; register", "slot 0"),
@@ -41,6 +41,26 @@ const GOOD: [(&str, &str); 11] = [
     (
         "size 4 links 0; owned; register; end 1; register; end 1; all; register",
         "slot 0; slot 1; slot 1; slot 0",
+    ),
+    // a slot that is taken attempts a full batch before it enters
+    (
+        "size 2 links 0; register; register; register; retire 0 a; end 0; retire 1 b(c); end 1; tick; owned; leave 0; tick; all",
+        "slot 0; slot 1; slot 2; --; gone a; gone b; slot 0; --; gone c",
+    ),
+    // what waits for another slot, and what is put, is left as a number goes back
+    (
+        "size 1 links 0; register; owned; retire 0 a(b(c)); end 0; tick; register; tick; leave 1; tick; end 0",
+        "slot 0; slot 1; --; slot 0; --; gone a; gone b; gone c; --",
+    ),
+    // the last owned slot leaves nothing
+    (
+        "size 4 links 0; owned; retire 0 p(q); tick; leave 0",
+        "slot 0; --; gone p; gone q",
+    ),
+    // what slots left comes after all batches
+    (
+        "size 3 links 0; register; register; retire 0 a; end 0; retire 1 b; all; register",
+        "slot 0; slot 1; gone b; gone a; slot 0",
     ),
 ];
 

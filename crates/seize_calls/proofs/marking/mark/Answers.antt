@@ -63,6 +63,7 @@ invariant_of-batch g c =
       many = subst (λ (vs : List ℕ). is_count_of batch.len vs ≡ true) same batch.many;
       front = subst (λ (vs : List ℕ). starts_at batch.first vs ≡ true) same batch.front;
       back = subst (λ (vs : List ℕ). ends_at batch.last vs ≡ true) same batch.back;
+      fits = batch.fits;
       closed = c.end.ensures.all.2;
     }
 

@@ -1,4 +1,4 @@
-use Rattle.seize_machine.proofs.Facts.{law_at_most_once, law_after, law_quiet, law_protection, law_whereabouts, law_gone, law_holders, law_no_later_holders, law_under_guard, law_tries}
+use Rattle.seize_machine.proofs.Facts.{law_at_most_once, law_after, law_quiet, law_unused, law_protection, law_whereabouts, law_gone, law_holders, law_no_later_holders, law_under_guard, law_tries}
 use Rattle.seize_machine.proofs.machine.laws.Goals as goal
 
 pub returns-clause-at_most_once : goal.returns-clause-at_most_once
@@ -9,6 +9,9 @@ returns-clause-after c = law_after
 
 pub returns-clause-quiet : goal.returns-clause-quiet
 returns-clause-quiet c = law_quiet
+
+pub returns-clause-unused : goal.returns-clause-unused
+returns-clause-unused c = law_unused
 
 pub returns-clause-protection : goal.returns-clause-protection
 returns-clause-protection c = law_protection

@@ -13,7 +13,7 @@ clear-requires g c =
     let a = subst (λ (k : Coded g.row.T.Denot). IsAlone k.code inside.words inside.pass inside.numbers inside.places.items inside.made (box_value inside.ender) hands) g.met.T.Codes.same c.self.invariant in (
       omega arith,
       (
-        (a.numbered.0, a.numbered.1),
+        (a.numbered.0, a.numbered.1, a.numbered.2),
         ((a.knows.for, a.knows.sole), ((hands.state, hands.names, hands.kinds, a.knows.holds, may_go a), subst (IsEnderOf inside.words) (sym c.deref.ensures) a.ends)),
       ),
     )

@@ -33,4 +33,4 @@ returns-clause-laws g c =
     let k = c.self.invariant.knows in let all = c.laws.ensures in let v = c.self.inside in let looks = c.slots.ensures.0 in
     let at = subst (λ (t : Name × List Entry). (are_distinct (linked_values t.0.links) ≡ true) × IsLegalList (start t.0) t.1) (λ j. (sym k.for.0 j, looks.alone k.sole j)) (k.distinct, looks.legal) in
     subst (λ (v : View g.row.T.Denot). LawsOf (start v.book) (moments (start v.book) v.seen)) c.self.view_is
-    (laws_of all.at_most_once all.after all.quiet all.protection all.whereabouts all.gone all.holders all.no_later_holders all.under_guard all.tries (words_book v.words) v.pass.seen at.0 at.1)
+    (laws_of all.at_most_once all.after all.quiet all.unused all.protection all.whereabouts all.gone all.holders all.no_later_holders all.under_guard all.tries (words_book v.words) v.pass.seen at.0 at.1)

@@ -18,7 +18,7 @@ clear-requires g c =
     let a = c.self.invariant in let inside = c.self.inside in let hands = inside.hands in (
       omega arith,
       (
-        (a.numbered.0, a.numbered.1),
+        (a.numbered.0, a.numbered.1, a.numbered.2),
         ((a.knows.for, a.knows.sole), ((hands.state, hands.names, hands.kinds, a.knows.holds, may_go a), subst (IsEnderOf inside.words) (sym c.deref.ensures) a.ends)),
       ),
     )

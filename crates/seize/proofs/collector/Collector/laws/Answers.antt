@@ -13,4 +13,4 @@ pub returns-clause-laws : goal.returns-clause-laws
 returns-clause-laws g c =
     let looks = c.look.ensures.looks in let all = c.laws.ensures in let log = c.look.new.pass.seen in
     subst (λ (n : Name). LawsOf (start n) (moments (start n) log)) (sym looks.same.0)
-    (laws_of all.at_most_once all.after all.quiet all.protection all.whereabouts all.gone all.holders all.no_later_holders all.under_guard all.tries c.args.pass.now.name log looks.distinct looks.legal)
+    (laws_of all.at_most_once all.after all.quiet all.unused all.protection all.whereabouts all.gone all.holders all.no_later_holders all.under_guard all.tries c.args.pass.now.name log looks.distinct looks.legal)

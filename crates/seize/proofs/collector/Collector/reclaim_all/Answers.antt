@@ -1,13 +1,13 @@
 use Rattle.std.proofs.Common.{◌≡◌, ◌↔◌, ◌⊎◌, ℕ, true, false, List, refl, sym, ap, subst, ◌∙◌}
 use Rattle.seize_machine.specs.Machine.History.{Reclaimed, Retired}
-use Rattle.seize_machine.specs.Machine.State.{link_at, slot_at}
+use Rattle.seize_machine.specs.Machine.State.{head_at, is_active, link_at, no_slot, slot_at}
 use Rattle.seize_book.specs.Book.{after, mine, moments}
 use Rattle.seize_book.specs.Entry.{Entry}
 use Rattle.seize_book.specs.Porters.{GoesOnTo}
 use Rattle.seize_book.specs.Tokens.{Name, start}
 use Rattle.seize_calls.specs.Alone.{AllBy}
 use Rattle.seize_machine.specs.Machine.Laws.{is_quiet}
-use Rattle.seize_parts.specs.Sweeps.{IsCleared, StandsInUse}
+use Rattle.seize_parts.specs.Sweeps.{StandsInUse}
 use Rattle.seize.specs.Collectors.{its_book}
 use Rattle.seize.proofs.collector.Collector.reclaim_all.Goals as goal
 
@@ -37,7 +37,7 @@ returns-clause-reclaims g c =
       numbers = λ s is. ap (λ (n : Name). (slot_at (after (start n) lent.seen) s).used) (sym lent_name)
           ∙ sweeps.numbers s (ap (λ (t : Name × List Entry). (slot_at (after (start t.0) t.1) s).used) (λ j. (back_name j, back_seen j)) ∙ is);
       none_in_use = subst (λ (t : Name × List Entry). (c.stay-all.result ≡ true) ↔ ((s : ℕ) → (slot_at (after (start t.0) t.1) s).used ≡ false)) (λ j. (back_name j, back_seen j)) sweeps.none_in_use;
-      cleared = λ so. subst (λ (t : Name × List Entry). (s : ℕ) → IsCleared (after (start t.0) t.1) s) (λ j. (back_name j, back_seen j)) (sweeps.cleared so);
+      cleared = λ so. subst (λ (t : Name × List Entry). (s : ℕ) → (slot_at (after (start t.0) t.1) s ≡ no_slot) × (is_active (head_at (after (start t.0) t.1) s) ≡ false)) (λ j. (back_name j, back_seen j)) (sweeps.cleared so);
       reclaimed = λ so. subst (λ (t : Name × List Entry). (v q : ℕ) → Retired (moments (start t.0) t.1) v q → (k : ℕ) × Reclaimed (moments (start t.0) t.1) v k) (λ j. (back_name j, back_seen j)) (sweeps.reclaimed so);
       quiet = λ quiet. subst (λ (t : Name × List Entry). is_quiet (after (start t.0) t.1) ≡ true) (λ j. (back_name j, back_seen j))
           (sweeps.quiet (ap (λ (n : Name). is_quiet (after (start n) lent.seen)) lent_name ∙ quiet));

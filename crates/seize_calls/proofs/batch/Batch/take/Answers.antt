@@ -13,4 +13,5 @@ invariant_of-self c =
       front = subst (λ (vs : List ℕ). starts_at c.args.self.now.first vs ≡ true) (sym none) refl;
       back = subst (λ (vs : List ℕ). ends_at c.args.self.now.last vs ≡ true) (sym none) refl;
       closed = none_closed values held;
+      fits = c.args.self.now.fits;
     }

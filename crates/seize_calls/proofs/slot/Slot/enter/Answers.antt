@@ -1,9 +1,9 @@
 use Rattle.std.proofs.Common.{ℕ, refl, sym, ap, subst, ◌∙◌}
 use Rattle.seize_machine.specs.Machine.Event.{Enter}
-use Rattle.seize_machine.specs.Machine.State.{Slot}
+use Rattle.seize_machine.specs.Machine.State.{is_idle}
 use Rattle.seize_book.specs.Slots.{AddsDeed}
 use Rattle.seize_words.specs.Reservations.{beginning}
-use Rattle.seize_calls.proofs.Slots.{after_event, begins_in, calls_with, holder, idle_in, of_list, ready_learned, stays_entered, together}
+use Rattle.seize_calls.proofs.Slots.{begins_in, calls_with, holder, of_list, ready_learned, stays_entered, still_event, together}
 use Rattle.seize_calls.proofs.slot.Slot.enter.Goals as goal
 
 pub enter-requires : goal.enter-requires
@@ -12,7 +12,7 @@ enter-requires g c =
     let its = holder s p (ready_learned s.seen pass p (of.0.0.book ∙ of.1.0) learns) in
     record {
       book = (its.0, head.0 ∙ of.0.0.book ∙ of.1.0 ∙ sym learns.0.0, head.1 ∙ sym s.together.numbered);
-      outside = (idle_in s of.0.1, c.requires.outside.0);
+      outside = (of.0.1, c.requires.outside.0);
       slot = c.requires.outside.1;
     }
 
@@ -20,16 +20,16 @@ pub invariant_of-self : goal.invariant_of-self
 invariant_of-self g c =
     let s = c.args.self.now in let pass = c.args.pass.now in let p = c.learn.new.self in let of = c.requires.of in let one = c.enter in let seen = c.learn-2.ensures in
     let ready = ready_learned s.seen pass p (of.0.0.book ∙ of.1.0) c.learn.ensures in let stays = stays_entered s p one.new.key one.new.pass one.new.activation one.ensures.noted of.0.1 c.requires.outside.0 in
-    let after = after_event s p ready of.0.0.told one.new.key one.new.pass (ap (λ (z : Slot). z.call) stays) (ap (λ (z : Slot). z.batch) stays) _ one.ensures.noted in
+    let after = still_event s p ready one.new.key one.new.pass of.0.0.told stays _ one.ensures.noted in
     record { together = together s p ready _ one.new.pass after c.learn-2.new.self seen.0 seen.1 }
 
 pub returns-clause-of : goal.returns-clause-of
 returns-clause-of g c =
     let s = c.args.self.now in let pass = c.args.pass.now in let p = c.learn.new.self in let of = c.requires.of in let one = c.enter in let seen = c.learn-2.ensures in
     let ready = ready_learned s.seen pass p (of.0.0.book ∙ of.1.0) c.learn.ensures in let stays = stays_entered s p one.new.key one.new.pass one.new.activation one.ensures.noted of.0.1 c.requires.outside.0 in
-    let after = after_event s p ready of.0.0.told one.new.key one.new.pass (ap (λ (z : Slot). z.call) stays) (ap (λ (z : Slot). z.batch) stays) _ one.ensures.noted in (
+    let after = still_event s p ready one.new.key one.new.pass of.0.0.told stays _ one.ensures.noted in (
       of_list s p ready _ one.new.pass after _ refl seen.0 seen.1 _ of.0.0,
-      ap (λ (z : Slot). z.used) stays ∙ of.0.1,
+      ap is_idle stays ∙ of.0.1,
     )
 
 pub returns-clause-activation : goal.returns-clause-activation

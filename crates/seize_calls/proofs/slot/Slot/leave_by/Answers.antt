@@ -1,11 +1,11 @@
 use Rattle.std.proofs.Common.{lit<, refl, sym, ◌∙◌}
 use Rattle.seize_machine.specs.Machine.Event.{SwapOut}
-use Rattle.seize_book.specs.Slots.{slot_number}
+use Rattle.seize_book.specs.Slots.{slot_number, slot_of}
 use Rattle.seize_words.specs.Reservations.{beginning}
 use Rattle.seize_calls.specs.Batches.{keys_in}
 use Rattle.seize_calls.specs.Calls.{Leaves, job_of, life_when}
 use Rattle.seize_calls.proofs.Laid.{lays_ready}
-use Rattle.seize_calls.proofs.Slots.{after_call, calls_with, holds_ready, idle_in, inside_after, last_of, of_list, ready_learned, together}
+use Rattle.seize_calls.proofs.Slots.{after_call, calls_with, holds_ready, idle_after, inside_after, last_of, of_list, ready_learned, together, used_in}
 use Rattle.seize_calls.proofs.Sole.{may_same}
 use Rattle.seize_calls.proofs.slot.Slot.leave_by.Goals as goal
 
@@ -14,7 +14,7 @@ leave_by-requires g c =
     let s = c.args.self.now in let pass = c.args.pass.now in let p = c.learn.new.self in let of = c.requires.of in let head = c.requires.head in let holds = holds_ready c.args.words.now s pass p of.0.0 of.1 c.learn.ensures in (
       lit< tt,
       (
-        (holds, (idle_in s of.0.1, c.requires.inside.0.active)),
+        (holds, (of.0.1, c.requires.inside.0.active)),
         (
           (head.0 ∙ of.0.0.book ∙ holds.keyed.of.0, head.1 ∙ sym s.together.numbered),
           (last_of s c.args.activation.now c.requires.inside, (c.requires.serves, may_same (g.M.Manner.may c.args.manner.now) pass p c.learn.ensures.0 of.2)),
@@ -31,7 +31,7 @@ pub returns-clause-of : goal.returns-clause-of
 returns-clause-of g c =
     let s = c.args.self.now in let p = c.learn.new.self in let of = c.requires.of in let one = c.leave_by in let seen = c.learn-2.ensures in
     let ready = ready_learned s.seen c.args.pass.now p (of.0.0.book ∙ of.1.0) c.learn.ensures in
-    ((of_list s p ready one.new.self one.new.pass (after_call c.args.words.now s p one.new.self one.new.pass of.0.0 one.ensures.leaves.rests one.ensures.holder.0) _ refl seen.0 seen.1 _ of.0.0, one.ensures.leaves.rests.used ∙ of.0.1), one.ensures.holder.1)
+    ((of_list s p ready one.new.self one.new.pass (after_call c.args.words.now s p one.new.self one.new.pass of.0.0 one.ensures.leaves.rests one.ensures.holder.0) _ refl seen.0 seen.1 _ of.0.0, idle_after one.ensures.leaves.rests (used_in (slot_of s.holder.key) of.0.1)), one.ensures.holder.1)
 
 pub returns-clause-left : goal.returns-clause-left
 returns-clause-left g c = λ left. (c.leave_by.ensures.leaves.active ∙ left, c.leave_by.ensures.slot)

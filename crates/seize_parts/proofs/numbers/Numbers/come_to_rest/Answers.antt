@@ -2,7 +2,7 @@ use Rattle.std.proofs.Common.{arith, refl, sym, ap, subst, ◌∙◌}
 use Rattle.seize_book.specs.Book.{after}
 use Rattle.seize_book.specs.Loans.{AllCarryOne}
 use Rattle.seize_book.specs.Tokens.{Name, start}
-use Rattle.seize_parts.proofs.InUse.{taken_still}
+use Rattle.seize_parts.proofs.InUse.{slots_kept}
 use Rattle.seize_parts.proofs.Permitted.{have_codes}
 use Rattle.seize_parts.proofs.Resting.{come_on}
 use Rattle.seize_parts.proofs.Swept.{still_sole}
@@ -10,7 +10,8 @@ use Rattle.seize_parts.proofs.numbers.Numbers.come_to_rest.Goals as goal
 
 pub returns-clause-numbers : goal.returns-clause-numbers
 returns-clause-numbers g c =
-    let are = c.rest-found.ensures.numbers in (taken_still 0 c.rest-found.new.self _ are.0 refl refl refl refl refl, ap (λ b. b.name) are.1 ∙ c.agree.ensures, λ i less. absurd (omega (arith, less)))
+    let are = c.rest-found.ensures.numbers in let n = c.rest-found.new.self in
+    ((slots_kept n are.0.0 _ refl refl refl refl are.0.0.kept refl refl refl, are.0.1), ap (λ b. b.name) are.1 ∙ c.agree.ensures, λ i less. absurd (omega (arith, less)))
 
 pub returns-clause-rests : goal.returns-clause-rests
 returns-clause-rests g c =

@@ -1,4 +1,5 @@
 use Rattle.std.proofs.Common.{◌<◌, ◌≡◌, arith, ◌∙◌}
+use Rattle.seize_parts.proofs.Aparts.{more_drain}
 use Rattle.seize_parts.proofs.Called.{sole_still}
 use Rattle.seize_parts.proofs.Parting.{leave_goes}
 use Rattle.seize_parts.proofs.Placed.{at_some, still_for, units_joined, units_within}
@@ -18,11 +19,16 @@ leave_into-requires g c =
           c.head-head.ensures.head,
           (
             (units_within at.slot at.rest c.join.new.self _ c.join.ensures (at_some at.slot at.rest at.guards some is.at), omega (arith, units, one)),
-            (c.requires.ender, c.requires.queue),
+            (c.requires.ender, c.requires.queue.0),
           ),
         ),
       ),
     )
+
+pub returns-clause-aside : goal.returns-clause-aside
+returns-clause-aside g c =
+    let leave = c.leave_into.ensures in
+    (leave.same, more_drain g.row.T.coded.code g.R.Puts.puts _ leave.leaves.0 c.args.aside.now.queue c.leave_into.new.aside.queue leave.leaves.2.put leave.leaves.2.waits c.requires.queue)
 
 pub returns-clause-slot : goal.returns-clause-slot
 returns-clause-slot g c = let of = c.leave_into.ensures.of in (of.0, of.1.0, c.leave_into.ensures.leaves.1.same.0 ∙ c.current.ensures.same)

@@ -46,7 +46,7 @@ returns-in_default-clause-goes g c =
     let same = same_pass c.requires.pass.1 (still_looked c.args.place.reservation.slot c.look.new.self c.look.ensures.looks) in
     subst (λ (q : Pass). Goes code puts W.told (IsIn pass s place) (λ st. last_guard_left st s) pass q seen seen queue queue) (sym same)
     (goes_as code puts W.told (λ st is. is) (λ st is. left_off st s (unit_none pass.name s place.unit (has_guard (model_slot st s)) (ap (λ (t : Lies). t.1.1.1.0) is.2.0) c.in_default.is))
-    (goes_none code puts W.told (IsIn pass s place) pass seen queue (subst (IsServed (further_in queue)) c.requires.pass.0.0 c.requires.queue)))
+    (goes_none code puts W.told (IsIn pass s place) pass seen queue (subst (IsServed (further_in queue)) c.requires.pass.0.0 c.requires.queue.0)))
 
 pub leave_last-requires : goal.leave_last-requires
 leave_last-requires g c =

@@ -38,4 +38,4 @@ returns-clause-enters g c = slot_enters c.args.self.now.slot c.args.pass.now c.e
 pub returns-clause-alone : goal.returns-clause-alone
 returns-clause-alone g c sole =
     let enters = c.enter.ensures.enters in let still = still_prepared c.args.self.now.slot enters.prepares in
-    (enters.does.2.0.answer, alone_from sole still (entry_alone (subst IsSole (sym still.same.1) sole) enters.does))
+    (enters.does.2.0.answer, alone_from sole still (entry_alone (subst IsSole (sym still.same.1) sole) enters.does refl))

@@ -28,6 +28,7 @@ returns-clause-made c =
         idle = m.idle;
         inactive = m.inactive;
         next = m.next;
+        rest = m.rest;
       };
       number = search;
       seen =

@@ -49,6 +49,7 @@ returns-clause-made c =
         all_now (λ st. length st.slots) ∙ t.full.0,
         all_now (λ st. first_free st.slots) ∙ t.full.1 ∙ sym (all_now (λ st. length st.slots) ∙ t.full.0),
       );
+      rest = (t.rest.0, now_at c.part.new.self n seen t.noted.later (key_of c.part.new.self.held) (c.part.ensures.0 ∙ t.name) (ap own_of first) refl t.noted.leads (λ st s. st.rest) ∙ t.rest.1);
     }
 
 pub returns-clause-next : goal.returns-clause-next
