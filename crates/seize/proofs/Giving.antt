@@ -2,7 +2,7 @@
 -- something.
 --     gave_now, gave_then      what is given back is that;  what is left of a give-back after a gathering, and that it weighs less
 --     Goes                     how far a give-back is: it is done, or this is left of it
---     goes_first, goes_on, goes_done, weighs_less     where it begins;  after a gathering;  at its end;  each time less is left
+--     left_of                  how much is left of it;  goes_on, goes_done     it goes on after a gathering, or is done
 use Rattle.std.proofs.Common.{◌≡◌, ℕ, suc, ◌+◌, ◌<◌, ◌==◌, Bool, true, false, not, if◌then◌else◌, List, [], ◌∷◌, ◌++◌, map, sum_by, refl, sym, ap, subst, ◌∙◌, arith}
 use Rattle.std.proofs.lemmas.List.{append_assoc}
 use Rattle.std.proofs.lemmas.List.Sums.{fold-append}
@@ -58,9 +58,6 @@ left_of true weight now s = 0
 left_of false weight now s = suc (sum_by (λ v. weight v.0) (rest_and_batch now s))
 
 module _ {T Seen : Type 0} (puts : ℕ → T → List T) (weight : T → ℕ) (told : Seen → T → Seen) (st : ModelState T ℕ) (s : ℕ) (seen : Seen) where
-  pub goes_first : is_free (model_slot st s).kind ≡ false → has_guard (model_slot st s) ≡ false → Remains puts weight told st st s seen seen
-  goes_first used off = record { used = used; off = off; gone = []; is = refl; hears = refl }
-
   module _ (mid now : ModelState T ℕ) (seen' seen'' : Seen) (left : Remains puts weight told st mid s seen seen') where
     told_both : (gone : List (T × ℕ)) → seen'' ≡ told_of told seen' gone → seen'' ≡ told_of told (told_of told seen left.gone) gone
     told_both gone hears = hears ∙ ap (λ (x : Seen). told_of told x gone) left.hears
