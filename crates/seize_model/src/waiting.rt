@@ -56,9 +56,9 @@ pub fn retired_batches<T, R>()
     ensures { (puts : R → T → List T) (weight : T → ℕ) → GoneLaw puts weight }
 {}
 
-/// What follows for every state: no value is gone in a flush, nor in a retirement by an active slot. And in every state that a list of
-/// calls leads to from a collector just made, each batch is below the bound: the greater of the size, at least 1, and the number of
-/// slots ever made. What slots that ended left is below that bound times the number of slots ever made.
+/// What follows for every state: no value is gone in a flush, nor in a retirement by an active slot. And in every state that calls and
+/// changes of the size lead to from a collector just made, each batch is below the bound: the greater of the largest size so far, at least
+/// 1, and the number of slots ever made. What slots that ended left is below that bound times the number of slots ever made.
 pub fn batches<T, R>()
     ensures flush { (puts : R → T → List T) (weight : T → ℕ) → FlushLaw puts weight }
     ensures retire { (puts : R → T → List T) (weight : T → ℕ) → RetireLaw puts weight }

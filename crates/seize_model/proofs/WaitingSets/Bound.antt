@@ -1,6 +1,6 @@
 -- Between calls each batch is below the bound, and so is what was left.
 use Rattle.std.proofs.Common.{◌≡◌, ◌≢◌, ℕ, zero, suc, ◌+◌, ◌*◌, ◌<◌, ◌≤◌, Bool, true, false, ◌||◌, ◌==◌, if◌then◌else◌, nat_lt, nat_le, max, List, [], ◌∷◌, ◌++◌, length, get_or, set, refl, sym, ◌∙◌, ap, subst, ◌⊎◌, inl, inr, arith}
-use Rattle.std.specs.List.{count_by}
+use Rattle.std.specs.List.{count_by, range_with_len}
 use Rattle.std.proofs.Math.Nat.{le-mul_of_pos_right, mul_comm}
 use Rattle.std.proofs.lemmas.Nat.{mul-le}
 use Rattle.std.proofs.lemmas.List.{length-set, length-map, length-append, get_or-set_same, get_or-set_other, get_or_past}
@@ -11,8 +11,9 @@ use Rattle.seize_machine.proofs.Facts.{one}
 use Rattle.seize_model.specs.declared.kind.Kind.{Kind}
 use Rattle.seize_model.specs.Waiting.State.{ModelSlot, ModelState, model_slot, set_slot, unmade_slot, new, has_guard, is_kept}
 use Rattle.seize_model.specs.Waiting.Attempt.{StateAndGone, release, release_all, attempt, gives_up, active_slots, wait_if_active, with_batch_retired, is_full, attempt_if_full, put, with_batch_value, part}
-use Rattle.seize_model.specs.Waiting.Calls.{is_free, least_unused, with_number_in_use, set_guards, rest_and_batch, with_rest_gathered, with_number_free}
-use Rattle.seize_model.specs.Waiting.Lists.{run}
+use Rattle.seize_model.specs.Waiting.Calls as calls
+use Rattle.seize_model.specs.Waiting.Calls.{is_free, least_unused, with_number_in_use, set_guards, rest_and_batch, with_rest_gathered, with_number_free, part_all}
+use Rattle.seize_model.specs.Waiting.Reached.{Reached, largest_size}
 use Rattle.seize_model.specs.Waiting.Laws.{BoundLaw}
 use Rattle.seize_model.proofs.Cases.{either, in_or_past, or_same}
 use Rattle.seize_model.proofs.Counts.{beside, count_same, count_set}
@@ -20,12 +21,13 @@ use Rattle.seize_model.proofs.WaitingSets.FurtherValues.{waits_batch}
 use Rattle.seize_model.proofs.WaitingSets.Beside.{Ignores, ignores_rest, ignores_many, ignores_count, attempt_beside, put_beside, part_beside}
 use Rattle.seize_model.proofs.WaitingSets.Taken.{with_room, taken_slot, taken_is, taken_none}
 use Rattle.seize_model.proofs.WaitingSets.Refusals.{IsUsed, in_use}
-use Rattle.seize_model.proofs.WaitingSets.Invariants.{Invariant, gives_keep, run_keeps}
+use Rattle.seize_model.proofs.WaitingSets.Invariants.{Invariant, gives_keep, step_keeps, swap_keeps}
+use Rattle.seize_model.proofs.WaitingSets.GoneBatches.{reached_clean}
 use Rattle.seize_model.proofs.WaitingSets.Tidy.{AreTidy, unmade_tidy, tidy_set, tidy_put, tidy_gathered, tidy_calls}
 
 -- so many slots, this size, and each batch below the bound
 pub record IsBelow {T R : Type 0} (size slots : ℕ) (st : ModelState T R) : Type 0 where
-  pub same_size : st.size ≡ size
+  pub within : st.size ≤ size
   pub many : length st.slots ≡ slots
   pub below : (s : ℕ) → length (model_slot st s).batch < max (max 1 size) slots
 
@@ -33,10 +35,10 @@ abbrev Stays : {T R : Type 0} → ℕ → ℕ → StateAndGone T R → Type 0
 Stays size slots o = IsBelow size slots o.0
 
 -- a slot that is written, with a batch below the bound
-set_below : {T R : Type 0} (size slots : ℕ) (st : ModelState T R) (s : ℕ) (slot : ModelSlot T R) → st.size ≡ size → length st.slots ≡ slots → ((i : ℕ) → i ≢ s → length (model_slot st i).batch < max (max 1 size) slots) → length slot.batch < max (max 1 size) slots
+set_below : {T R : Type 0} (size slots : ℕ) (st : ModelState T R) (s : ℕ) (slot : ModelSlot T R) → st.size ≤ size → length st.slots ≡ slots → ((i : ℕ) → i ≢ s → length (model_slot st i).batch < max (max 1 size) slots) → length slot.batch < max (max 1 size) slots
     → IsBelow size slots (set_slot st s slot)
 set_below {T} {R} size slots st s slot e n others own = record {
-  same_size = e;
+  within = e;
   many = length-set st.slots s slot ∙ n;
   below = λ i. at i (or_same i s) (in_or_past i (length st.slots));
 }
@@ -51,10 +53,10 @@ set_below {T} {R} size slots st s slot e n others own = record {
         rw is (omega arith)
 
 kept_below : {T R : Type 0} (size slots : ℕ) (st : ModelState T R) (s : ℕ) (slot : ModelSlot T R) → slot.batch ≡ (model_slot st s).batch → IsBelow size slots st → IsBelow size slots (set_slot st s slot)
-kept_below size slots st s slot same b = set_below size slots st s slot b.same_size b.many (λ i other. b.below i) (rw same (b.below s))
+kept_below size slots st s slot same b = set_below size slots st s slot b.within b.many (λ i other. b.below i) (rw same (b.below s))
 
 release_below : {T R : Type 0} (size slots : ℕ) (st : ModelState T R) (b : ℕ) → IsBelow size slots st → Stays size slots (release st b)
-release_below {T} {R} size slots st b h = either (Stays {T = T} {R = R} size slots) (is_kept st b) _ _ h (record { same_size = h.same_size; many = h.many; below = h.below })
+release_below {T} {R} size slots st b h = either (Stays {T = T} {R = R} size slots) (is_kept st b) _ _ h (record { within = h.within; many = h.many; below = h.below })
 
 release_all_below : {T R : Type 0} (size slots : ℕ) (bs : List ℕ) (st : ModelState T R) → IsBelow size slots st → Stays size slots (release_all st bs)
 release_all_below size slots [] st h = h
@@ -64,11 +66,11 @@ part_below : {T R : Type 0} (size slots : ℕ) (st : ModelState T R) (s : ℕ) �
 part_below size slots st s h = release_all_below size slots (model_slot st s).order (set_slot st s (record (model_slot st s) { order = [] })) (kept_below size slots st s (record (model_slot st s) { order = [] }) refl h)
 
 -- An attempt leaves its own batch empty or below the bound.
-detached_below : {T R : Type 0} (size slots : ℕ) (st : ModelState T R) (s : ℕ) → st.size ≡ size → length st.slots ≡ slots → ((i : ℕ) → i ≢ s → length (model_slot st i).batch < max (max 1 size) slots) → IsBelow size slots (with_batch_retired st s)
+detached_below : {T R : Type 0} (size slots : ℕ) (st : ModelState T R) (s : ℕ) → st.size ≤ size → length st.slots ≡ slots → ((i : ℕ) → i ≢ s → length (model_slot st i).batch < max (max 1 size) slots) → IsBelow size slots (with_batch_retired st s)
 detached_below {T} {R} size slots st s e n others =
     let emptied : IsBelow size slots (set_slot st s (record (model_slot st s) { batch = [] })) = set_below size slots st s (record (model_slot st s) { batch = [] }) e n others (omega arith) in
     record {
-      same_size = e;
+      within = e;
       many = length-map (set st.slots s (record (model_slot st s) { batch = [] })) (wait_if_active (length st.retired)) ∙ emptied.many;
       below = λ i.
           let is : (model_slot (with_batch_retired st s) i).batch ≡ (model_slot (set_slot st s (record (model_slot st s) { batch = [] })) i).batch
@@ -76,7 +78,7 @@ detached_below {T} {R} size slots st s e n others =
           rw is (emptied.below i);
     }
 
-attempt_below : {T R : Type 0} (size slots : ℕ) (st : ModelState T R) (s : ℕ) → st.size ≡ size → length st.slots ≡ slots → ((i : ℕ) → i ≢ s → length (model_slot st i).batch < max (max 1 size) slots) → Stays size slots (attempt st s)
+attempt_below : {T R : Type 0} (size slots : ℕ) (st : ModelState T R) (s : ℕ) → st.size ≤ size → length st.slots ≡ slots → ((i : ℕ) → i ≢ s → length (model_slot st i).batch < max (max 1 size) slots) → Stays size slots (attempt st s)
 attempt_below {T} {R} size slots st s e n others = go (gives_up st s) refl
   where
     few : active_slots st ≤ length st.slots
@@ -87,7 +89,7 @@ attempt_below {T} {R} size slots st s e n others = go (gives_up st s) refl
 
     go : (t : Bool) → gives_up st s ≡ t → (let o : StateAndGone T R = if t then (st, []) else release (with_batch_retired st s) (length st.retired) in Stays size slots o)
     go true t = record {
-      same_size = e;
+      within = e;
       many = n;
       below = λ i. elim (or_same i s) [
         | inl same ↦ rw same (small (length (model_slot st s).batch) (active_slots st) (length st.slots) slots t (count_by-le-length has_guard st.slots) n)
@@ -96,16 +98,16 @@ attempt_below {T} {R} size slots st s e n others = go (gives_up st s) refl
     }
     go false t = release_below size slots (with_batch_retired st s) (length st.retired) (detached_below size slots st s e n others)
 
-full_below : {T R : Type 0} (size slots : ℕ) (st : ModelState T R) (s : ℕ) → st.size ≡ size → length st.slots ≡ slots → ((i : ℕ) → i ≢ s → length (model_slot st i).batch < max (max 1 size) slots) → Stays size slots (attempt_if_full st s)
+full_below : {T R : Type 0} (size slots : ℕ) (st : ModelState T R) (s : ℕ) → st.size ≤ size → length st.slots ≡ slots → ((i : ℕ) → i ≢ s → length (model_slot st i).batch < max (max 1 size) slots) → Stays size slots (attempt_if_full st s)
 full_below {T} {R} size slots st s e n others = go (is_full st.size (model_slot st s).batch) refl
   where
-    short : (a b : ℕ) → nat_le (max 1 b) a ≡ false → b ≡ size → a < max (max 1 size) slots
+    short : (a b : ℕ) → nat_le (max 1 b) a ≡ false → b ≤ size → a < max (max 1 size) slots
     short a b f same = grind arith
 
     go : (t : Bool) → is_full st.size (model_slot st s).batch ≡ t → (let o : StateAndGone T R = if t then attempt st s else (st, []) in Stays size slots o)
     go true t = attempt_below size slots st s e n others
     go false t = record {
-      same_size = e;
+      within = e;
       many = n;
       below = λ i. elim (or_same i s) [
         | inl same ↦ rw same (short (length (model_slot st s).batch) st.size t e)
@@ -115,7 +117,7 @@ full_below {T} {R} size slots st s e n others = go (is_full st.size (model_slot 
 
 put_below : {T R : Type 0} (size slots : ℕ) (st : ModelState T R) (s : ℕ) (v : T × R) → IsBelow size slots st → Stays size slots (put st s v)
 put_below {T} {R} size slots st s v h =
-    full_below size slots (with_batch_value st s v) s h.same_size (length-set st.slots s (record (model_slot st s) { batch = (model_slot st s).batch ++ v ∷ [] }) ∙ h.many)
+    full_below size slots (with_batch_value st s v) s h.within (length-set st.slots s (record (model_slot st s) { batch = (model_slot st s).batch ++ v ∷ [] }) ∙ h.many)
     (λ i other. rw (get_or-set_other st.slots s i (record (model_slot st s) { batch = (model_slot st s).batch ++ v ∷ [] }) unmade_slot other) (h.below i))
 
 -- Calls. One that takes a number may make a slot.
@@ -133,7 +135,7 @@ wider a b c h = grind arith
 room_below : {T R : Type 0} (size : ℕ) (st : ModelState T R) (t : Bool) → Grows size st → Grows size (with_room t st)
 room_below size st false h = h
 room_below {T} {R} size st true h = record {
-  same_size = h.same_size;
+  within = h.within;
   many = refl;
   below = λ i. at i (or_same i (length st.slots));
 }
@@ -154,14 +156,14 @@ taken_below {T} {R} size st kind h =
     let room : Grows size (with_room t st) = room_below size st t h in
     subst (λ (k : ModelState T R). Grows size (attempt_if_full k (least_unused st.slots)).0) (taken_is st kind t refl)
     (grown size (length (with_room t st).slots) _
-    (full_below size (length (with_room t st).slots) (record (set_slot (with_room t st) n (taken_slot st kind)) { rest = [] }) n room.same_size (length-set (with_room t st).slots n (taken_slot st kind))
+    (full_below size (length (with_room t st).slots) (record (set_slot (with_room t st) n (taken_slot st kind)) { rest = [] }) n room.within (length-set (with_room t st).slots n (taken_slot st kind))
     (λ i other. rw (get_or-set_other (with_room t st).slots n i (taken_slot st kind) unmade_slot other) (room.below i))))
 
 gathered_below : {T R : Type 0} (size : ℕ) (st : ModelState T R) (s : ℕ) → Grows size st → Grows size (attempt (with_rest_gathered st s) s).0
 gathered_below {T} {R} size st s h =
     let new : ModelSlot T R = record (model_slot st s) { batch = rest_and_batch st s } in
     grown size (length st.slots) _
-    (attempt_below size (length st.slots) (with_rest_gathered st s) s h.same_size (length-set st.slots s new) (λ i other. rw (get_or-set_other st.slots s i new unmade_slot other) (h.below i)))
+    (attempt_below size (length st.slots) (with_rest_gathered st s) s h.within (length-set st.slots s new) (λ i other. rw (get_or-set_other st.slots s i new unmade_slot other) (h.below i)))
 
 -- What was left: each slot whose number is free has brought fewer values than the bound of a batch.
 
@@ -219,11 +221,11 @@ calls_fit {T} {R} puts weight size = record {
   parting = λ st s used h. (tidy.parting st s used h.0, grown size (length st.slots) _ (part_below size (length st.slots) st s h.1), parted st s h.2);
   attempt_by = λ st s used h. (
     tidy.attempt_by st s used h.0,
-    grown size (length st.slots) _ (attempt_below size (length st.slots) st s h.1.same_size refl (λ i other. h.1.below i)),
+    grown size (length st.slots) _ (attempt_below size (length st.slots) st s h.1.within refl (λ i other. h.1.below i)),
     rest_same size st (attempt st s).0 (attempt_beside (λ (k : ModelState T R). k.rest) ignores_rest st s) (attempt_beside (λ (k : ModelState T R). frees k) ignores_free st s) (attempt_beside (λ (k : ModelState T R). length k.slots) ignores_many st s) h.2,
   );
   retirement = retirement;
-  link_change = λ st link new h. (h.0, record { same_size = h.1.same_size; many = h.1.many; below = h.1.below }, h.2);
+  link_change = λ st link new h. (h.0, record { within = h.1.within; many = h.1.many; below = h.1.below }, h.2);
 }
   where
     tidy : Invariant puts weight (λ (st : ModelState T R). AreTidy st)
@@ -250,8 +252,8 @@ calls_fit {T} {R} puts weight size = record {
 
     free_below : (st : ModelState T R) (s : ℕ) → Grows size st → IsBelow size (length st.slots) (with_number_free st s)
     free_below st s h =
-        let b : IsBelow size (length st.slots) (set_slot st s unmade_slot) = set_below size (length st.slots) st s unmade_slot h.same_size refl (λ i other. h.below i) (omega arith) in
-        record { same_size = b.same_size; many = b.many; below = b.below }
+        let b : IsBelow size (length st.slots) (set_slot st s unmade_slot) = set_below size (length st.slots) st s unmade_slot h.within refl (λ i other. h.below i) (omega arith) in
+        record { within = b.within; many = b.many; below = b.below }
 
 -- so what was left is below its bound
 rest_below : {T R : Type 0} (size : ℕ) (st : ModelState T R) → RestFits size st → (st.rest ≡ []) ⊎ (length st.rest < max (max 1 size) (length st.slots) * length st.slots)
@@ -271,11 +273,46 @@ rest_below {T} {R} size st fits = go st.rest fits
         some zero h wide = absurd (omega arith)
         some (suc f) h wide = omega (arith, mul_comm b (length st.slots))
 
+-- Reached states.
+
+parts_below : {T R : Type 0} (size slots : ℕ) (ss : List ℕ) (st : ModelState T R) → IsBelow size slots st → IsBelow size slots (part_all st ss).0
+parts_below size slots [] st h = h
+parts_below size slots (s ∷ ss) st h =
+    parts_below size slots ss (set_guards (part st s).0 s 0) (kept_below size slots (part st s).0 s (record (model_slot (part st s).0 s) { guards = 0 }) refl (part_below size slots st s h))
+
+resized_fits : {T R : Type 0} (size more : ℕ) (st : ModelState T R) → Fits size st → Fits (max more size) (record st { size = more })
+resized_fits size more st h = (
+  h.0,
+  record { within = omega arith; many = refl; below = λ i. wide (length (model_slot st i).batch) (length st.slots) (h.1.below i) },
+  more_fits (length st.rest) (frees st) (length st.slots) h.2,
+)
+  where
+    wide : (a c : ℕ) → a < max (max 1 size) c → a < max (max 1 (max more size)) c
+    wide a c h = grind arith
+
+    more_fits : (r f c : ℕ) → r + f ≤ f * max (max 1 size) c → r + f ≤ f * max (max 1 (max more size)) c
+    more_fits r f c h = let times = mul-le f (max (max 1 size) c) f (max (max 1 (max more size)) c) (omega arith) (omega arith) in omega (arith, h, times)
+
+reached_fits : {T R : Type 0} (puts : R → T → List T) (weight : T → ℕ) (st : ModelState T R) (reached : Reached puts weight st) → Fits (largest_size reached) st
+reached_fits {T} {R} puts weight _ (Reached.made size links) = (λ i. unmade_tidy, record { within = omega arith; many = refl; below = λ i. omega arith }, none_fits {T = T} {R = R} size (new size links) refl)
+reached_fits puts weight _ (Reached.resized st size before) = resized_fits (largest_size before) size st (reached_fits puts weight st before)
+reached_fits {T} {R} puts weight _ (Reached.called st call before) =
+    step_keeps (λ (k : ModelState T R). Fits (largest_size before) k) puts weight (calls_fit puts weight (largest_size before)) st call (reached_fits puts weight st before)
+reached_fits {T} {R} puts weight _ (Reached.swapped st s link value before) =
+    swap_keeps (λ (k : ModelState T R). Fits (largest_size before) k) puts weight (calls_fit puts weight (largest_size before)) st s link value (reached_fits puts weight st before)
+reached_fits {T} {R} puts weight _ (Reached.reclaimed st before) =
+    let parted : ModelState T R = (part_all st (range_with_len 0 (length st.slots))).0 in
+    let was : IsBelow (largest_size before) (length st.slots) parted = parts_below (largest_size before) (length st.slots) (range_with_len 0 (length st.slots)) st (reached_fits puts weight st before).1 in (
+      (reached_clean puts weight _ (Reached.reclaimed st before)).0,
+      record {
+        within = was.within;
+        many = refl;
+        below = λ i. let is = ap (λ (x : ModelSlot T R). x.batch) (get_or-map (λ (slot : ModelSlot T R). unmade_slot) parted.slots i unmade_slot) in rw is (omega arith);
+      },
+      none_fits (largest_size before) (calls.reclaim_all puts weight st).0 refl,
+    )
+
 pub batch_bound : {T R : Type 0} (puts : R → T → List T) (weight : T → ℕ) → BoundLaw {T = T} {R = R} puts weight
-batch_bound {T} {R} puts weight size links list =
-    let h : Fits size (run puts weight (new size links) list).1.0
-    = run_keeps (λ (st : ModelState T R). Fits size st) puts weight (calls_fit puts weight size) (new size links) list
-    (λ i. unmade_tidy, record { same_size = refl; many = refl; below = λ i. omega arith }, none_fits {T = T} {R = R} size (new size links) refl) in
-    subst (λ (k : ℕ). ((s : ℕ) → length (model_slot (run puts weight (new size links) list).1.0 s).batch < max (max 1 k) (length (run puts weight (new size links) list).1.0.slots))
-    × (((run puts weight (new size links) list).1.0.rest ≡ []) ⊎ (length (run puts weight (new size links) list).1.0.rest < max (max 1 k) (length (run puts weight (new size links) list).1.0.slots) * length (run puts weight (new size links) list).1.0.slots)))
-    (sym h.1.same_size) (h.1.below, rest_below size (run puts weight (new size links) list).1.0 h.2)
+batch_bound puts weight st reached =
+    let h = reached_fits puts weight st reached in
+    (h.1.below, rest_below (largest_size reached) st h.2)

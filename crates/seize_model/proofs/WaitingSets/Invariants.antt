@@ -9,7 +9,7 @@ use Rattle.seize_model.specs.Waiting.Attempt.{StateAndGone, attempt, attempt_if_
 use Rattle.seize_model.specs.Waiting.Further.{further, settle, still_to_come, with_further}
 use Rattle.seize_model.specs.Waiting.Calls as calls
 use Rattle.seize_model.specs.Waiting.Calls.{is_free, is_owned, least_unused, with_number_in_use, set_guards, others_in_use, rest_and_batch, with_rest_gathered, gathers, with_number_free, give_back, taking, gathering}
-use Rattle.seize_model.specs.Waiting.Lists.{Call, Register, EnterOwned, Enter, Leave, End, Refresh, Flush, Retire, Protect, Swap, step, run, retire_old}
+use Rattle.seize_model.specs.Waiting.Lists.{Call, Register, EnterOwned, Enter, Leave, End, Refresh, Flush, Retire, Protect, Swap, step, retire_old}
 use Rattle.seize_model.proofs.Cases.{either}
 use Rattle.seize_model.proofs.Counts.{same_at}
 use Rattle.seize_model.proofs.WaitingSets.Beside.{Ignores, ignores_of, attempt_beside, full_beside, put_beside, part_beside, settled_beside}
@@ -193,7 +193,3 @@ module _ {T R : Type 0} (P : ModelState T R → Type 0) (puts : R → T → List
   step_keeps st (Retire s v r) h = retire_keeps st s v r h
   step_keeps st (Protect s l) h = unless_keeps (calls.no_guard st s) st _ h (λ e. h)
   step_keeps st (Swap s l new r) h = swapped_keeps s new r (calls.swap st s l new).0 (calls.swap st s l new).1 (swap_keeps st s l new h)
-
-  pub run_keeps : (st : ModelState T R) (list : List (Call T R)) → P st → P (run puts weight st list).1.0
-  run_keeps st [] h = h
-  run_keeps st (call ∷ list) h = run_keeps (step puts weight st call).1.0 list (step_keeps st call h)

@@ -1,12 +1,11 @@
 -- What follows from the definitions of the calls.
 use Rattle.std.specs.Prelude.{◌≡◌, ◌≢◌, ℕ, ◌<◌, ◌*◌, ◌⊎◌, true, false, max, List, [], ◌++◌, length}
 use Rattle.std.specs.List.{sum_by}
-use Rattle.seize_model.specs.Waiting.State.{ModelState, model_slot, retired_at, has_guard, new}
+use Rattle.seize_model.specs.Waiting.State.{ModelState, model_slot, retired_at, has_guard}
 use Rattle.seize_model.specs.Waiting.Attempt.{with_gone}
 use Rattle.seize_model.specs.Waiting.Further.{further, gone_from}
 use Rattle.seize_model.specs.Waiting.Calls.{flush, retire, is_free, others_in_use, rest_and_batch, gathering, give_back, with_number_free}
-use Rattle.seize_model.specs.Waiting.Lists.{Call, run}
-use Rattle.seize_model.specs.Waiting.Reached.{Reached}
+use Rattle.seize_model.specs.Waiting.Reached.{Reached, largest_size}
 
 -- **Flushes.** No value is gone in a flush.
 abbrev pub FlushLaw : {T R : Type 0} → (R → T → List T) → (T → ℕ) → Type 0
@@ -18,18 +17,18 @@ RetireLaw {T} {R} puts weight =
     (st : ModelState T R) (s : ℕ) (value : T) (reclaim : R) → has_guard (model_slot st s) ≡ true
     → (retire puts weight st s value reclaim).1.1 ≡ []
 
--- the greater of the size, at least 1, and the number of slots ever made
-abbrev pub batch_bound : {T R : Type 0} → ModelState T R → ℕ
-batch_bound st = max (max 1 st.size) (length st.slots)
+-- the greater of a size, at least 1, and the number of slots ever made
+abbrev pub batch_bound : {T R : Type 0} → ℕ → ModelState T R → ℕ
+batch_bound size st = max (max 1 size) (length st.slots)
 
--- **Bound.** Between calls each batch is below the bound, where the size stays as the collector was made. And what slots that ended
--- left is below that bound times the number of slots ever made.
+-- **Bound.** In a reached state each batch is below the bound of the largest size so far. And what slots that ended left is below that
+-- bound times the number of slots ever made.
 abbrev pub BoundLaw : {T R : Type 0} → (R → T → List T) → (T → ℕ) → Type 0
 BoundLaw {T} {R} puts weight =
-    (size links : ℕ) (calls : List (Call T R)) → (
-    let st = (run puts weight (new size links) calls).1.0 in
-    ((s : ℕ) → length (model_slot st s).batch < batch_bound st)
-    × ((st.rest ≡ []) ⊎ (length st.rest < batch_bound st * length st.slots))
+    (st : ModelState T R) (reached : Reached puts weight st) → (
+    let bound = batch_bound (largest_size reached) st in
+    ((s : ℕ) → length (model_slot st s).batch < bound)
+    × ((st.rest ≡ []) ⊎ (length st.rest < bound * length st.slots))
     )
 
 -- **Last end.** Where no other number is in use and s has no guard, all that was left is gone as the number of s is given back: what the

@@ -1,5 +1,5 @@
 -- The states that a collector comes to, whatever calls are made.
-use Rattle.std.specs.Prelude.{◌≡◌, ℕ, false, List, [], Option}
+use Rattle.std.specs.Prelude.{◌≡◌, ℕ, false, max, List, [], Option}
 use Rattle.seize_model.specs.Waiting.State.{ModelState, new, is_kept, retired_at}
 use Rattle.seize_model.specs.Waiting.Calls as calls
 use Rattle.seize_model.specs.Waiting.Lists.{Call, step}
@@ -13,6 +13,14 @@ pub data Reached {T R : Type 0} (puts : R → T → List T) (weight : T → ℕ)
   swapped : (st : ModelState T R) (s link : ℕ) (value : Option T) → Reached puts weight st
       → Reached puts weight (calls.swap st s link value).1.0
   reclaimed : (st : ModelState T R) → Reached puts weight st → Reached puts weight (calls.reclaim_all puts weight st).0
+
+-- the largest size that the collector had on the way to the state
+abbrev pub largest_size : {T R : Type 0} {puts : R → T → List T} {weight : T → ℕ} {st : ModelState T R} → Reached puts weight st → ℕ
+largest_size (Reached.made size links) = size
+largest_size (Reached.resized st size before) = max size (largest_size before)
+largest_size (Reached.called st call before) = largest_size before
+largest_size (Reached.swapped st s link value before) = largest_size before
+largest_size (Reached.reclaimed st before) = largest_size before
 
 -- **Gone.** In a reached state a retired batch that waits for no slot has no values left.
 abbrev pub GoneLaw : {T R : Type 0} → (R → T → List T) → (T → ℕ) → Type 0
