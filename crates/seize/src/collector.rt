@@ -299,6 +299,7 @@ impl<T: Drop, R: Reclaim<T>> Collector<T, R> {
     /// # Errors
     ///
     /// `NoMemory` where the allocator refuses, as with `register`. No event was made then.
+    #[inline(always)]
     pub fn enter_owned<W: Wait>(
         &self,
         rt: &W,

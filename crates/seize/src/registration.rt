@@ -49,6 +49,7 @@ impl<'c, T: Drop, R: Reclaim<T>> Registration<'c, T, R> {
     ghost use Rattle.seize.specs.Registrations.{registered_in, registered_slot};
 
     // One with this slot, and its shelf.
+    #[inline(always)]
     pub(crate) fn of(
         collector: &'c Collector<T, R>,
         slot: Slot<T>,

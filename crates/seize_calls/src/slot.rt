@@ -238,6 +238,7 @@ impl<T: Drop> Slot<T> {
     /// number is taken again.
     ///
     /// It takes no memory, makes no atomic step and waits for nobody.
+    #[inline(always)]
     pub fn give(
         &mut self,
         words: &Words<T>,
@@ -263,6 +264,7 @@ impl<T: Drop> Slot<T> {
     /// whether that is full: then a call of the slot is under way, which attempts it, and only `resume` can be called.
     ///
     /// It takes no memory, makes no atomic step and waits for nobody.
+    #[inline(always)]
     pub fn take_again(
         &mut self,
         words: &Words<T>,
@@ -289,6 +291,8 @@ impl<T: Drop> Slot<T> {
     /// under way, which attempts both. Only `resume` can be called then.
     ///
     /// It takes no memory, makes no atomic step and waits for nobody.
+    #[cold]
+    #[inline(never)]
     pub fn gather(
         &mut self,
         words: &Words<T>,
@@ -314,6 +318,8 @@ impl<T: Drop> Slot<T> {
     /// batch, as with `retire`.
     ///
     /// It takes no memory and waits as `retire` does.
+    #[cold]
+    #[inline(never)]
     pub fn resume<R: Reclaim<T>, M: Drainer<T, R>>(
         &mut self,
         words: &Words<T>,

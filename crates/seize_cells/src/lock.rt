@@ -47,6 +47,7 @@ impl<M: Steady> Lock<M> {
     ///
     /// It waits while another thread has the lock: it yields some times, and then sleeps until it is woken. A work that asks for the same
     /// lock waits for ever. Taking the lock is one swap where nobody has it, and giving it back one store and a look at who waits.
+    #[inline(always)]
     pub fn with<W: LockWork<M, A, R>, A, R>(&self, rt: &impl Wait, work: W, with: &mut A) -> R
         requires { MayLock M.label M.sound self.now (λ x. W.may work x with.old) }
         ensures { HadLock M.label M.sound self.now (λ x y. W.gives work x y with.old with.new result) }

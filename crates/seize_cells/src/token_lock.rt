@@ -35,6 +35,7 @@ impl TokenLock {
     }
 
     /// The token, as soon as nobody has it.
+    #[inline(always)]
     pub(crate) fn take(&self, rt: &impl Wait) -> CellToken
         ensures { result.name ≡ self.now.latch }
     {
@@ -48,6 +49,7 @@ impl TokenLock {
     }
 
     /// The token, if nobody has it.
+    #[inline(always)]
     pub(crate) fn try_take(&self) -> Option<CellToken>
         ensures { IfSome result (λ token. token.name ≡ self.now.latch) }
     {
@@ -56,6 +58,8 @@ impl TokenLock {
 
     // The same as `take`, asleep. What rings between the look at the bell and the attempt is not missed: the thread does not fall asleep
     // then.
+    #[cold]
+    #[inline(never)]
     fn wait(&self, rt: &impl Wait) -> CellToken
         ensures { result.name ≡ self.now.latch }
     {
@@ -72,6 +76,7 @@ impl TokenLock {
     }
 
     /// Lays the token back, and wakes one of those who wait.
+    #[inline(always)]
     pub(crate) fn give(&self, token: CellToken)
         requires { token.name ≡ self.now.latch }
     {

@@ -114,6 +114,7 @@ impl<T: Drop> Numbers<T> {
     }
 
     // The place of the first slot here: the least number that was made and is not in use.
+    #[inline(always)]
     fn first(&self) -> Option<usize>
         requires { KnowsLeast self.now }
         ensures { result ≡ position is_some self.now.slots.items }
@@ -141,6 +142,7 @@ impl<T: Drop> Numbers<T> {
     /// # Errors
     ///
     /// `NoMemory` where the allocator refuses.
+    #[inline(always)]
     pub fn take(
         &mut self,
         words: &Words<T>,
@@ -167,6 +169,7 @@ impl<T: Drop> Numbers<T> {
     }
 
     // The slot of number n, which is the least one that is not in use: the number is taken again. It says whether a call has begun.
+    #[inline(always)]
     fn again(&mut self, words: &Words<T>, n: usize, pass: &mut Pass) -> (Slot<T>, bool)
         requires numbers { AreSlots self.old × (self.old.book.name ≡ words_book words.now) }
         requires pass { IsPassFor words.now pass.old }
@@ -186,6 +189,8 @@ impl<T: Drop> Numbers<T> {
 
     // A new slot, with the number after all others. Its place in the list is made first, so that no slot is made without one. A list has
     // fewer than 2^63 places, so the 2^64 - 32 numbers never run out. While all numbers are in use, nothing is left.
+    #[cold]
+    #[inline(never)]
     fn make(&mut self, words: &Words<T>, alloc: Global, pass: &mut Pass) -> Result<Slot<T>, Refusal>
         requires numbers { AreNumbers self.old × (self.old.book.name ≡ words_book words.now) }
         requires pass { IsPassFor words.now pass.old }
@@ -218,6 +223,7 @@ impl<T: Drop> Numbers<T> {
     }
 
     // The number of the slot goes back, and its batch joins the rest.
+    #[inline(always)]
     fn give(&mut self, words: &Words<T>, slot: Slot<T>, pass: &mut Pass)
         requires numbers { AreSlots self.old × (self.old.book.name ≡ words_book words.now) }
         requires pass { IsPassFor words.now pass.old }
@@ -237,6 +243,7 @@ impl<T: Drop> Numbers<T> {
     }
 
     /// The number of the slot goes back, where another slot is in use or nothing is left. Else the slot begins to gather, and comes back.
+    #[inline(always)]
     pub fn end(&mut self, words: &Words<T>, slot: Slot<T>, pass: &mut Pass) -> Option<Slot<T>>
         requires numbers { AreNumbers self.old × (self.old.book.name ≡ words_book words.now) × KnowsLeast self.old }
         requires pass { IsPassFor words.now pass.old }

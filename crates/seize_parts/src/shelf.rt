@@ -133,6 +133,8 @@ impl<T: Drop> Shelf<T> {
     /// # Errors
     ///
     /// `AllocError` where the allocator refuses.
+    #[cold]
+    #[inline(never)]
     fn new(alloc: Global, book: &Seen) -> Result<Shelf<T>, AllocError>
         ensures { IfOk result (λ shelf. shelf ≡ book.now.name.family) }
     {

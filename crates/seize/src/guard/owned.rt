@@ -55,6 +55,7 @@ impl<'c, T: Drop, R: Reclaim<T>> OwnedGuard<'c, T, R> {
     ghost use Rattle.seize_parts.specs.Makes.{LeavesAndGives, MakesCall, MakesOne};
 
     // One with this slot, which enters, and its shelf.
+    #[inline(always)]
     pub(crate) fn enter(
         collector: &'c Collector<T, R>,
         slot: Slot<T>,
@@ -116,6 +117,7 @@ impl<'c, T: Drop, R: Reclaim<T>> OwnedGuard<'c, T, R> {
     ///
     /// But for what the reclaimer does, it takes no memory. It takes no lock of the guard. At last it waits for other threads that
     /// register or end.
+    #[inline(always)]
     pub fn leave<W: Wait>(self, rt: &W, pass: &mut Pass)
         requires of { IsPassOf (owned_collector self) pass.old }
         ensures leaves { LeavesAndGives (PutBy T.row.coded.code R.puts) (owned_slot self.entry) pass.old pass.new }

@@ -161,7 +161,8 @@ fn read<W: Wait>(
     Ok(found)
 }
 
-// Puts a block into a link, or none, and retires what was there.
+// Puts a block into a link, or none, and retires what was there. It is inlined, as a user would write it out.
+#[inline(always)]
 fn replace<G: Guard<u64>, W: Wait>(
     guard: &G,
     link: usize,

@@ -41,6 +41,7 @@ impl<'a, 'p, T: Drop> LockWork<Numbers<T>, Pass<'p>, Result<Taken<T>, Refusal>>
         IfOk result (λ made. HasTaken work.words.now pass pass' made.slot made.begun × IsShelfFor work.words.now made.shelf)
         × IfErr result (λ refusal. TakesNone pass pass' refusal) };
 
+    #[inline(always)]
     fn work(self, numbers: &mut Numbers<T>, pass: &mut Pass<'p>) -> Result<Taken<T>, Refusal> {
         numbers.book.agree(&self.words.blocks.book);
         numbers.take(self.words, self.alloc, pass)
@@ -63,6 +64,7 @@ impl<'a, 'p, T: Drop> LockWork<Numbers<T>, Pass<'p>, Option<Slot<T>>> for Ending
         IfNone result (MakesOne pass pass' (Give (its_number work.slot)) Done)
         × IfSome result (λ begun. HasGathered work.words.now work.slot pass begun pass') };
 
+    #[inline(always)]
     fn work(self, numbers: &mut Numbers<T>, pass: &mut Pass<'p>) -> Option<Slot<T>> {
         let Ending { words, slot } = self;
         numbers.book.agree(&words.blocks.book);
@@ -79,6 +81,7 @@ impl<'a, 'p, T: Drop> LockWork<Numbers<T>, Pass<'p>, Option<Slot<T>>> for Ending
 /// # Errors
 ///
 /// `NoMemory` where the allocator refuses.
+#[inline(always)]
 pub fn take_slot<T: Drop, R: Reclaim<T>, W: Wait>(
     numbers: &Lock<Numbers<T>>,
     rt: &W,
@@ -109,6 +112,7 @@ pub fn take_slot<T: Drop, R: Reclaim<T>, W: Wait>(
 /// the slot's batch are attempted first, until nothing is left.
 ///
 /// It takes no memory and waits as `take_slot` does; what is reclaimed goes to the reclaimer outside the lock.
+#[inline(always)]
 pub fn end_slot<T: Drop, R: Reclaim<T>, W: Wait>(
     numbers: &Lock<Numbers<T>>,
     rt: &W,
