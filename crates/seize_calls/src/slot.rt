@@ -118,7 +118,7 @@ impl<T: Drop> Slot<T> {
     /// # Errors
     ///
     /// `NoMemory` where either was refused, or the slot's entry of the table was filled already, which no call leads to. Then nothing was
-    /// changed but that a bucket may have been made, and the slot that comes next is given back.
+    /// changed, and the slot that comes next is given back.
     pub fn make(
         words: &Words<T>,
         alloc: Global,

@@ -8,3 +8,4 @@ pub mod Pairs
 pub mod Places
 pub mod Sharing
 pub mod Shown
+pub mod Walks

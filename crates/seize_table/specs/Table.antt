@@ -4,9 +4,7 @@
 --     IsItem label i x       what i shows of a cell is that it holds the value x, which has that label
 --     ShowsEntry label bs t f x   the token f shows that the entry of t holds x, in the table of the buckets bs
 --     IsOf label bs t f      the token f shows some value there
---     WalksOn n v m          a step of a walk from number n leads to number m, and yields the value v or ends
-use Rattle.std.specs.Prelude.{◌≡◌, ℕ, ◌+◌, ◌-◌, ◌^◌, ◌<◌, ◌≤◌, List, slice_get, IfSome, IfNone}
-use Rattle.std.specs.declared.option.Option.{Option}
+use Rattle.std.specs.Prelude.{◌≡◌, ℕ, ◌+◌, ◌-◌, ◌^◌, List, slice_get}
 use Rattle.std.specs.declared.option.Option.TheVariants.{Some}
 use Rattle.std.specs.declared.alloc.Global.{Global}
 use Rattle.std.specs.declared.vec.Vec.{Vec}
@@ -14,7 +12,6 @@ use Rattle.once_cell.specs.declared.race.note.Note.{Note}
 use Rattle.seize_table.specs.declared.thread_id.Thread.{Thread}
 use Rattle.seize_table.specs.declared.tls.cells.Item.{Item}
 use Rattle.seize_table.specs.declared.tls.filled.Filled.{Filled}
-use Rattle.seize_table.specs.Place.{all_numbers}
 
 abbrev pub entry_number : ℕ → ℕ → ℕ
 entry_number bucket entry = 2 ^ (bucket + 5) + entry - 32
@@ -50,10 +47,3 @@ IsOf {T} label buckets thread filled = (value : T) × ShowsEntry label buckets t
 abbrev pub HasCell : {T : Type 0} → (T → ℕ) → List Cell → ℕ → Item T → T → Type 0
 HasCell label items entry item value =
     (cell : Cell) × (slice_get items entry ≡ Some cell) × (item.note.cell ≡ cell.1) × IsItem label item value
-
--- A walk by number that comes to `before` next comes to `after` next: it passed the value that it yields, or all numbers.
-abbrev pub WalksOn : {X : Type 0} → ℕ → Option X → ℕ → Type 0
-WalksOn before item after =
-    (before ≤ after)
-    × IfSome item (λ _. (before < after) × (after ≤ all_numbers))
-    × IfNone item (after ≡ all_numbers)

@@ -135,8 +135,9 @@ impl<T: Labelled + Drop> ThreadLocal<T> {
         }
     }
 
-    // Fills the entry where it isn't filled yet. All memory comes before `create` is called. An entry that is in its cell has a
-    // value, so the last refusal is that of no call: the cell does not tell a proof what another thread put in.
+    // Fills the entry where it isn't filled yet. All memory comes before `create` is called, and the entry's own before that of its bucket,
+    // so a refusal leaves the table as it was. An entry that is in its cell has a value, so the last refusal is that of no call: the cell
+    // does not tell a proof what another thread put in.
     fn fill<F: FnOnce() -> T>(&self, create: F, thread: Thread) -> Result<Loaded<'_, T>, Refusal>
     where
         F: Drop,
@@ -144,15 +145,11 @@ impl<T: Labelled + Drop> ThreadLocal<T> {
         ensures shown { IfOk result (λ found. ShowsEntry T.label (cells_of self.now) thread found.filled found.value.now) }
         ensures refusal { IfErr result (λ e. e ≡ NoMemory) }
     {
-        let alloc = self.alloc;
+        let room = cells::room(self.alloc)?;
         let mut row = self.buckets[thread.bucket].note();
         let cell = self.cell(thread, &mut row)?;
         let mut note = cell.note();
-        let Ok(entry) = cell.get_or_try_init_as(move || cells::filled(alloc, create), &mut note)
-        else {
-            return Err(Refusal::NoMemory);
-        };
-        match entry {
+        match cell.get_or_init_as(move || cells::filled(room, create), &mut note) {
             Some(entry) => {
                 let (value, meaning) = entry.get();
                 let item = Item { note, meaning };
@@ -167,17 +164,16 @@ impl<T: Labelled + Drop> ThreadLocal<T> {
     ///
     /// # Errors
     ///
-    /// The value comes back where a growth was refused, or where the entry is filled already. Then the entry is as it was; a bucket that
-    /// was made stays.
+    /// The value comes back where a growth was refused, or where the entry is filled already. Then the table is as it was.
     pub fn put(&self, value: T, thread: Thread) -> Result<Filled<T>, T>
         ensures shown { IfOk result (λ filled. ShowsEntry T.label (cells_of self.now) thread filled value) }
         ensures back { IfErr result (λ back. back ≡ value) }
     {
-        let mut row = self.buckets[thread.bucket].note();
-        let Ok(cell) = self.cell(thread, &mut row) else {
+        let Ok(mut room) = cells::room(self.alloc) else {
             return Err(value);
         };
-        let Ok(mut room) = Box::new(self.alloc, None) else {
+        let mut row = self.buckets[thread.bucket].note();
+        let Ok(cell) = self.cell(thread, &mut row) else {
             return Err(value);
         };
         let (entry, meaning) = Entry::named(value);
@@ -212,12 +208,12 @@ impl<T: Labelled + Drop> ThreadLocal<T> {
     /// The entry's value. Where the entry isn't filled, it is filled with what `create` answers; where another thread fills it
     /// first, that thread's value stays, this one's is ended, and both calls answer the value that stays.
     ///
-    /// The bucket of the entry and the entry's own memory are made here, where they aren't yet, before `create` is called, and stay
-    /// until the table ends.
+    /// The entry's own memory and its bucket are made here, where they aren't yet, before `create` is called, and stay until the table
+    /// ends. Where the entry is filled, `create` is not called, and no memory is taken.
     ///
     /// # Errors
     ///
-    /// `NoMemory` where a growth was refused; then no entry is filled, and `create` was not called. A bucket that was made stays.
+    /// `NoMemory` where a growth was refused; then the table is as it was, and `create` was not called.
     pub fn load_or<F: Fn() -> T>(&self, create: F, thread: Thread) -> Result<Loaded<'_, T>, Refusal>
     where
         F: Drop,
@@ -225,7 +221,10 @@ impl<T: Labelled + Drop> ThreadLocal<T> {
         ensures shown { IfOk result (λ found. ShowsEntry T.label (cells_of self.now) thread found.filled found.value.now) }
         ensures refusal { IfErr result (λ e. e ≡ NoMemory) }
     {
-        self.fill(create, thread)
+        match self.try_load(thread) {
+            Some(found) => Ok(found),
+            None => self.fill(create, thread),
+        }
     }
 
     /// The value of an entry that was seen filled. It takes no memory and changes nothing.
@@ -285,7 +284,7 @@ impl<T: Labelled + Drop + Default> ThreadLocal<T> {
     ///
     /// # Errors
     ///
-    /// As `load_or`: `NoMemory` where a growth was refused; then no entry is filled, and no default was made.
+    /// As `load_or`: `NoMemory` where a growth was refused; then the table is as it was, and no default was made.
     pub fn load(&self, thread: Thread) -> Result<Loaded<'_, T>, Refusal>
         ensures shown { IfOk result (λ found. ShowsEntry T.label (cells_of self.now) thread found.filled found.value.now) }
         ensures refusal { IfErr result (λ e. e ≡ NoMemory) }

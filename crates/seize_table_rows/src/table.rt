@@ -364,7 +364,7 @@ fn a_refused_fill_has_not_called_its_closure(rt: HostRuntime) -> Result<(), Fail
             assert_eq!(rt; calls.get(), done as u64);
             assert!(rt; table.try_load(thread).is_none());
             assert_eq!(rt; table.iter().count(), done);
-            assert!(rt; table.buckets() <= before.saturating_add(1));
+            assert_eq!(rt; table.buckets(), before);
             want = 2;
         }
         assert_eq!(rt; fill(&table, &calls, 2, thread)?, want);
@@ -381,10 +381,12 @@ fn a_refused_load_fills_nothing(rt: HostRuntime) -> Result<(), Fail> {
     let table = table_of(&rt, rt.alloc(), 0)?;
     for (done, id) in [0, 40, 500].into_iter().enumerate() {
         let thread = at(&rt, id);
+        let before = table.buckets();
         if let Err(refusal) = table.load(thread) {
             assert_eq!(rt; refusal, Refusal::NoMemory);
             assert!(rt; table.try_load(thread).is_none());
             assert_eq!(rt; table.iter().count(), done);
+            assert_eq!(rt; table.buckets(), before);
         }
         assert_eq!(rt; *table.load(thread)?, 0);
         assert_eq!(rt; table.iter().count(), done.saturating_add(1));
@@ -400,6 +402,7 @@ fn a_refused_put_gives_the_value_back(rt: HostRuntime) -> Result<(), Fail> {
     if let Err(back) = table.put(5, thread) {
         assert_eq!(rt; back, 5);
         assert!(rt; table.try_load(thread).is_none());
+        assert_eq!(rt; table.buckets(), 1);
         assert!(rt; table.put(5, thread).is_ok());
     }
     assert_eq!(rt; table.try_load(thread).map(|found| *found), Some(5));

@@ -176,7 +176,7 @@ impl<T: Drop> Words<T> {
     /// # Errors
     ///
     /// `NoMemory` where the growth of the table was refused, or the slot's entry was filled already, which no call leads to. Then nothing
-    /// was changed but that a bucket may have been made, and the slot that comes next is given back.
+    /// was changed, and the slot that comes next is given back.
     pub fn make_slot(
         &self,
         next: NextSlot,

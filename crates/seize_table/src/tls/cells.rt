@@ -1,5 +1,5 @@
 //! The boxes that a table is made of: those of its buckets and of its entries. Only `tls` and its modules use it.
-ghost use Rattle.std.specs.Prelude.{◌≡◌, vec_len, IfOk, IfErr, IfSome};
+ghost use Rattle.std.specs.Prelude.{◌≡◌, vec_len, IfOk, IfSome};
 
 use super::meaning::Meaning;
 use crate::Labelled;
@@ -75,21 +75,21 @@ pub(super) type Cell<T> = OnceBox<Option<Entry<T>>>;
 /// The cells of a bucket.
 pub(super) type Row<T> = Vec<Cell<T>>;
 
-/// The box of what `create` answers. The memory comes first: where it is refused, `create` comes back, and a closure that can
-/// be called once comes back only if it was not called.
+/// A box for an entry's value, with none in it yet: so the memory is there before a value is made.
+pub(super) fn room<T: Labelled + Drop>(alloc: Global) -> Result<Box<Option<Entry<T>>>, AllocError> {
+    Ok(Box::new(alloc, None)?)
+}
+
+/// The box with what `create` answers.
 pub(super) fn filled<T: Labelled + Drop, F: FnOnce() -> T>(
-    alloc: Global,
+    mut room: Box<Option<Entry<T>>>,
     create: F,
-) -> Result<Box<Option<Entry<T>>>, F>
+) -> Box<Option<Entry<T>>>
     requires { F.pre create }
-    ensures filled { IfOk result (λ b. (x : T) × F.post create x × IfSome b.value (λ seen. seen.0 ≡ T.label x)) }
-    ensures refused { IfErr result (λ f. f ≡ create) }
+    ensures { (x : T) × F.post create x × IfSome result.value (λ seen. seen.0 ≡ T.label x) }
 {
-    let Ok(mut entry) = Box::new(alloc, None) else {
-        return Err(create);
-    };
-    Box::replace(&mut entry, Some(Entry::of(create())));
-    Ok(entry)
+    Box::replace(&mut room, Some(Entry::of(create())));
+    room
 }
 
 /// A bucket of so many entries, none of them filled.

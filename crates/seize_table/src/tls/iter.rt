@@ -1,14 +1,15 @@
 //! The walk of a table: by bucket, then by entry. It stands on the table of `tls`, which begins it.
 ghost use Rattle.std.specs.Prelude.{◌≡◌, ◌+◌, ◌-◌, ◌^◌, ◌<◌, ◌≤◌, IfSome, IfNone};
 ghost use Rattle.std.specs.Iterator.{at_most};
-ghost use Rattle.seize_table.specs.Table.{HasCell, ShowsEntry, WalksOn};
+ghost use Rattle.seize_table.specs.Table.{HasCell, ShowsEntry};
 
 use super::cells::{Cell, Item};
 use super::{Loaded, ThreadLocal};
 use crate::Labelled;
 use crate::thread_id::{BUCKETS, MAX_INDEX, Thread};
 
-/// The values of the filled entries of a table, by bucket and then by entry, which is by number. It takes no memory.
+/// The values of the filled entries of a table, by bucket and then by entry, which is by number: each entry at most once. Each value comes
+/// with the token that shows it from then on. It takes no memory.
 ///
 /// An entry that was seen filled when the walk began is among them. Of an entry that another thread fills meanwhile it may
 /// yield the value or not.
@@ -24,6 +25,7 @@ pub struct Iter<'a, T: Labelled> {
 
 impl<'a, T: Labelled + Drop> Iter<'a, T> {
     ghost use Rattle.seize_table.specs.Named.{bucket_of, cells_of, next_entry, stands_at, table_of};
+    ghost use Rattle.seize_table.specs.Walk.{YieldsInOrder};
 
     pub(super) fn new(table: &'a ThreadLocal<T>) -> Iter<'a, T>
         ensures { ((table_of result).now ≡ table.now) × (bucket_of result ≡ 0) × (next_entry result ≡ 0) }
@@ -56,6 +58,12 @@ impl<'a, T: Labelled + Drop> Iter<'a, T> {
         None
     }
 
+    /// What the walk yields from here on: the values of as many entries, each entry by a greater number than the one before, and none that
+    /// the walk has passed. It does nothing: its contract is the law.
+    pub fn yields(&self)
+        ensures { YieldsInOrder self.now }
+    {}
+
     // The next filled entry of this bucket.
     fn next_in_bucket(&mut self) -> Option<(Thread, Loaded<'a, T>)>
         requires { bucket_of self.old < BUCKETS }
@@ -75,19 +83,19 @@ impl<'a, T: Labelled + Drop> Iter<'a, T> {
 }
 
 impl<'a, T: Labelled + Drop> Iterator for Iter<'a, T> {
-    ghost use Rattle.seize_table.specs.Named.{stands_at, table_of};
+    ghost use Rattle.seize_table.specs.Named.{stands_at};
     ghost use Rattle.seize_table.specs.Place.{all_numbers};
+    ghost use Rattle.seize_table.specs.Walk.{WalksOn};
 
-    type Item = &'a T;
+    type Item = Loaded<'a, T>;
 
-    ghost next_gives = { λ old item new. (table_of new ≡ table_of old)
-        × WalksOn (stands_at old) item (stands_at new) };
+    ghost next_gives = { WalksOn };
 
     ghost remaining = { λ it. at_most (all_numbers - stands_at it) };
 
-    fn next(&mut self) -> Option<&'a T> {
+    fn next(&mut self) -> Option<Loaded<'a, T>> {
         let (_thread, found) = self.next_seen()?;
-        Some(found.value)
+        Some(found)
     }
 }
 
