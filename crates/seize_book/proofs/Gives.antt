@@ -1,6 +1,7 @@
 -- The keys of a slot and of the numbers are enough for events that turn the slot's number over: to give it back, to take it again, and to
 -- gather what slots left before it is given back.
 use Rattle.std.proofs.Common.{◌≡◌, ℕ, zero, suc, ◌+◌, ◌<◌, ◌==◌, true, false, List, [], ◌∷◌, ◌++◌, length, map, slice_set, Bool, refl, sym, ◌∙◌, ap, subst, arith, not, nat_lt, ◌&&◌, ◌||◌, if◌then◌else◌, Some, None}
+use Rattle.std.proofs.lemmas.Bool.{or_parts}
 use Rattle.std.specs.List.{list_any}
 use Rattle.std.proofs.lemmas.List.{length-map}
 use Rattle.seize_machine.specs.Machine.State.{State, Slot, no_slot, slot_at, head_at, is_idle, is_active}
@@ -115,10 +116,6 @@ may_give n p size seen a b one one' zero_is outside ends =
     goes log before = let st : State = after (start n) log in let s : ℕ = key_of a in let slot = before.kept.0.1 in let d : State × Answer = (after_give st s, Done) in
         (d, next_of size st (Give s) d (Step.gave s (ap is_idle (sym slot.1) ∙ outside.0) (sym slot.2 ∙ outside.1) (still_ends n p seen log a b before ∙ ends)), refl)
 
-neither : (x y : Bool) → (x || y) ≡ false → (x ≡ false) × (y ≡ false)
-neither true y h = absurd (cc)
-neither false y h = (refl, h)
-
 -- where it may not end, it gathers
 pub may_gather : (n : Name) (p size : ℕ) (seen : List Entry) (a b : List (HeldKey Entry)) → is_one slots a ≡ true → is_one numbers b ≡ true → key_of b ≡ 0
     → KnownOutside n a → ends_known n n a b ≡ false → MayAdd n p seen (a ++ b) (turning p size (Begin (key_of a) Gather))
@@ -128,7 +125,7 @@ may_gather n p size seen a b one one' zero_is outside ends =
     goes : (log : List Entry) → Before n p seen (only slots a ++ only numbers b) log
         → (d : State × Answer) × Does (start n) log (Made (turning p size (Begin (key_of a) Gather))) d × (makes_slot (after (start n) log) (Begin (key_of a) Gather) ≡ false)
     goes log before = let st : State = after (start n) log in let s : ℕ = key_of a in let slot = before.kept.0.1 in let d : State × Answer = (after_gather st s, Done) in
-        let some = neither _ _ (still_ends n p seen log a b before ∙ ends) in
+        let some = or_parts _ _ (still_ends n p seen log a b before ∙ ends) in
         (d, next_of size st (Begin s Gather) d (Step.gathered s (ap is_idle (sym slot.1) ∙ outside.0) (sym slot.2 ∙ outside.1) some.0 some.1), refl)
 
 -- which number is the least that is not in use, by which are in use

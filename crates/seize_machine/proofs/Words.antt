@@ -11,7 +11,7 @@ use Rattle.std.proofs.lemmas.List.Sums.{position_or_len_is}
 use lib.Pointwise.{pointwise}
 use Rattle.seize_machine.specs.Machine.State.{State, Slot, Progress, Place, Append, Mark, Look, Try, Add, Out, Rest, no_slot, slot_at, Inactive, head_at, is_idle, is_active}
 use Rattle.seize_machine.specs.Machine.Event.{Event}
-use Rattle.seize_machine.specs.Machine.Next.{same_list, first_free, next, of_call, walking_at, Outcome, scheme, insert, insert_into, begin, is_outside, has_others, is_empty, after_gather}
+use Rattle.seize_machine.specs.Machine.Next.{same_list, first_free, next, of_call, walking_at, Outcome, scheme, insert, insert_into, begin, is_outside, has_others, ends_now, after_gather}
 use Rattle.seize_machine.specs.Machine.History.{Timed, at_size, Moment, done_by, history, answers_of, end_of, is_legal}
 use Rattle.seize_machine.specs.Machine.Code.{event_of, SubFits, CountFits, CallCountsFit, CountsFit, Sized, HasDone, HasRun, HasRunLegally, HasOutcome}
 use Rattle.seize_machine.specs.declared.machine.event.Answer.{Answer}
@@ -145,7 +145,7 @@ past_begin st s job h = go job
     go Gather = last (ap (λ (b : Bool). b && not (is_active (head_at st s))) not_idle)
       where
         last : is_outside st s ≡ false → begin scheme st s Gather ≡ None
-        last e = ap (λ (b : Bool). if b && not (has_others st s) && not (is_empty (slot_at st s).batch && is_empty st.rest) then Some (after_gather st s, Done) else None) e
+        last e = ap (λ (b : Bool). if b && not (ends_now (has_others st s) (slot_at st s).batch st.rest) then Some (after_gather st s, Done) else None) e
 
 -- whether another slot is in use
 pub other_used : (slots : List Slot) (s n : ℕ) → n < length slots → n ≢ s → (get_or slots n no_slot).used ≡ true → list_any (λ slot. slot.used) (set slots s no_slot) ≡ true

@@ -1,5 +1,6 @@
 -- Each step is a legal event, so the steps are exactly the legal events.
 use Rattle.std.proofs.Common.{◌≡◌, ◌≢◌, ℕ, ◌<◌, ◌≤◌, ℤ, pos, ◌+ℤ◌, ◌-ℤ◌, Bool, true, false, not, ◌&&◌, ◌||◌, ◌==◌, if◌then◌else◌, nat_lt, nat_le, List, [], ◌∷◌, ◌++◌, length, slice_set, unwrap_or, Option, Some, None, refl, sym, ◌∙◌, ap, subst, ◌⊎◌, inl, inr, arith}
+use Rattle.std.proofs.lemmas.Bool.{or_from}
 use Rattle.seize_machine.specs.Machine.State.{State, Slot, Progress, Head, Inactive, Active, Place, Append, Look, Try, Out, Rest, slot_at, head_at, batch_at, link_at, is_active, waiting_at, has, is_idle}
 use Rattle.seize_machine.specs.Machine.Event.{Event, Begin}
 use Rattle.seize_machine.specs.Machine.Next.{Outcome, scheme, next, of_call, moved_call, own, is_outside, slot_set, set_head, begun, put_at, put_into, mark_at, looking_at, looked_on, slot_read, can_detach_at, detached_on, trying_at, won_on, insert_into, insert, is_changed, can_lose_at, lost_on, same_list, is_zero, adding_at, add_count, walking_at, walked_on, sub_count, leaving_at, swap_out, handing_at, handed_on, hand, return_at, is_none_or_fresh}
@@ -91,7 +92,7 @@ next_of size st event _ (Step.took_old s r e least) =
     other : (a b : ℕ) → a < b → (a == b) ≡ false
     other a b h = grind arith
 next_of size st event _ (Step.gave s e off ends) = yes _ _ _ (both _ _ (outside st s e off) ends)
-next_of size st event _ (Step.gathered s e off alone some) = yes _ _ _ (both _ _ (both _ _ (outside st s e off) (ap not alone)) (ap not some))
+next_of size st event _ (Step.gathered s e off alone some) = yes _ _ _ (both _ _ (outside st s e off) (ap not (or_from _ _ alone some)))
 next_of size st event _ (Step.entered s e off) = yes _ _ _ (outside st s e off)
 next_of size st event _ (Step.begun_retire s v e new) = yes _ _ _ (both _ _ e (may st v new))
 next_of size st event _ (Step.begun_other s job place e which exact) = begins size st s job place e exact.0 exact.1

@@ -1,5 +1,6 @@
 -- The steps of the machine: each legal event is one of them, and each of them is a legal event.
 use Rattle.std.proofs.Common.{◌≡◌, ◌≢◌, ℕ, ◌+◌, ◌-◌, ◌^◌, ◌<◌, ◌≤◌, ℤ, pos, ◌+ℤ◌, ◌-ℤ◌, Bool, true, false, not, ◌&&◌, ◌||◌, ◌==◌, if◌then◌else◌, nat_lt, nat_le, max, List, [], ◌∷◌, ◌++◌, length, slice_set, option_to_list, unwrap_or, Option, Some, None, refl, sym, ◌∙◌, ap, subst, ◌⊎◌, inl, inr, arith}
+use Rattle.std.proofs.lemmas.Bool.{or_parts}
 use Rattle.std.proofs.lemmas.List.Sums.{prefix_len-le-length, passes_at_first}
 use Rattle.seize_machine.specs.Machine.State.{no_slot, State, Slot, Progress, Head, Inactive, Active, Place, Append, Mark, Look, Try, Add, Out, Rest, slot_at, head_at, batch_at, link_at, is_active, waiting_at, has, is_idle}
 use Rattle.seize_machine.specs.Machine.Event.{Event, Take, Give, Enter, Begin, Put, ReadHead, Detach, Insert, AddCount, SwapOut, SubCount, Hand, Return, ReadLink, ExchangeLink}
@@ -231,11 +232,11 @@ step_begin size st s Flush d h = step_begin_active size st s Flush _ d h (which 
 step_begin size st s Leave d h = step_begin_active size st s Leave _ d h (inr (inr (inr refl))) refl
 step_begin size st s Refresh d h = step_begin_active size st s Refresh _ d h (inr (inr (inl refl))) refl
 step_begin size st s Gather d h =
-    let w : ((is_outside st s && not (has_others st s) && not (is_empty (slot_at st s).batch && is_empty st.rest)) ≡ true) × _ = if_some _ _ _ h in
-    let a : ((is_outside st s && not (has_others st s)) ≡ true) × (not (is_empty (slot_at st s).batch && is_empty st.rest) ≡ true) = and_true _ _ w.0 in
-    let b : (is_outside st s ≡ true) × (not (has_others st s) ≡ true) = and_true _ _ a.0 in
-    let t : (is_idle (slot_at st s) ≡ true) × (is_active (head_at st s) ≡ false) = outside st s b.0 in
-    subst (λ d. Step size st (Begin s Gather) d) w.1 (gathered s t.0 t.1 (not_true _ b.1) (not_true _ a.1))
+    let w : ((is_outside st s && not (ends_now (has_others st s) (slot_at st s).batch st.rest)) ≡ true) × _ = if_some _ _ _ h in
+    let a : (is_outside st s ≡ true) × (not (ends_now (has_others st s) (slot_at st s).batch st.rest) ≡ true) = and_true _ _ w.0 in
+    let b : (has_others st s ≡ false) × _ = or_parts _ _ (not_true _ a.1) in
+    let t : (is_idle (slot_at st s) ≡ true) × (is_active (head_at st s) ≡ false) = outside st s a.0 in
+    subst (λ d. Step size st (Begin s Gather) d) w.1 (gathered s t.0 t.1 b.0 b.1)
 
 put_place : (k n : ℕ) (batch : List ℕ) → (((if nat_le k (length batch) then Mark 0 n [] else Rest [] []) ≡ Rest [] []) × (length batch < k)) ⊎ ((if nat_le k (length batch) then Mark 0 n [] else Rest [] []) ≡ Mark 0 n [])
 put_place k n batch = go (nat_le k (length batch)) refl

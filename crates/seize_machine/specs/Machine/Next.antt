@@ -128,9 +128,9 @@ abbrev pub after_gather : State → ℕ → State
 after_gather st s =
     record st { slots = slice_set st.slots s (gathered_slot (length st.slots) (st.rest ++ (slot_at st s).batch)); rest = [] }
 
--- no other slot is in use, and there is something to gather
-abbrev pub can_gather : State → ℕ → Bool
-can_gather st s = is_outside st s && not (has_others st s) && not (is_empty (slot_at st s).batch && is_empty st.rest)
+-- a slot that may not end yet gathers
+abbrev pub can_gather : Scheme → State → ℕ → Bool
+can_gather scheme st s = is_outside st s && not (scheme.may_end (has_others st s) (slot_at st s).batch st.rest)
 
 abbrev pub begun : State → ℕ → Place → State
 begun st s place = slot_set st s (begun_at (slot_at st s) place)
@@ -160,7 +160,7 @@ begin scheme st s (Retire v) =
 begin scheme st s Flush = begin_active st s (flushing_at (length st.slots) (slot_at st s).batch)
 begin scheme st s Leave = begin_active st s (Out false)
 begin scheme st s Refresh = begin_active st s (Out true)
-begin scheme st s Gather = if can_gather st s then Some (after_gather st s, Done) else None
+begin scheme st s Gather = if can_gather scheme st s then Some (after_gather st s, Done) else None
 
 -- Put: v is retired into the batch of a slot, where there are so many slots
 

@@ -5,7 +5,7 @@ use Rattle.std.proofs.lemmas.List.{get_or-set_same}
 use Rattle.seize_machine.specs.Machine.State as machine
 use Rattle.seize_machine.specs.Machine.State.{State, Active, Inactive, is_active, head_at}
 use Rattle.seize_machine.specs.Machine.Event.{Event, Begin, Give}
-use Rattle.seize_machine.specs.Machine.Next.{next, is_empty, is_outside, has_others, ends_now, can_gather, after_give, after_gather}
+use Rattle.seize_machine.specs.Machine.Next.{next, is_empty, is_outside, has_others, ends_now, can_gather, after_give, after_gather, scheme}
 use Rattle.seize_machine.specs.Machine.History.{handed}
 use Rattle.seize_machine.specs.declared.machine.event.Job.TheVariants.{Gather}
 use Rattle.seize_machine.specs.declared.machine.event.Answer.{Answer}
@@ -201,9 +201,8 @@ ended_run {T} {R} puts weight lighter of P names s (suc n) st before holds near 
 pub may_gather : {T R X : Type 0} (of : Naming T R X) (size : ℕ) (st : waiting.ModelState T R) (ms : State) (s : ℕ) (es : List Event) (later : State) (answers : List Answer) → NearAt of [] st ms → IsIdle st s → IsJob s Gather es → play size ms es ≡ Some (later, answers) → WouldGather st s
 may_gather of size st ms s es later answers n idle job legal =
     let first : First size ms (Begin s Gather) job.0 later answers = first_of size ms (Begin s Gather) job.0 later answers (ap (λ (l : List Event). play size ms l) (sym job.1) ∙ legal) in
-    let all = and_true (is_outside ms s && not (has_others ms s)) _ (if_some (can_gather ms s) _ _ first.step).0 in
-    let lone : has_others ms s ≡ false = not_true _ (and_true (is_outside ms s) (not (has_others ms s)) all.0).1 in
-    (sym (same_others of st ms s n idle) ∙ lone, sym (same_left of st ms s n idle) ∙ not_true _ all.1)
+    let all = and_true (is_outside ms s) _ (if_some (can_gather scheme ms s) _ _ first.step).0 in
+    or_false _ _ (sym (same_ends of st ms s n idle) ∙ not_true _ all.1)
 
 begun : {T R : Type 0} (puts : R → T → List T) (of : ℕ → T) (by : ℕ → R) (st : waiting.ModelState T R) (before : State) (s : ℕ) (es fs : List Event) (answers : List Answer) (later : State) → NearAt (with_reclaimers of by) [] st before → IsIdle st s → IsJob s Gather es
     → play st.size before (es ++ fs) ≡ Some (later, answers) → WouldGather st s
