@@ -16,7 +16,7 @@ mod opened;
 use crate::thread_id::{BUCKETS, MAX_INDEX, Thread};
 use crate::{Labelled, Refusal};
 pub use all_filled::AllFilled;
-use cells::{Cell, Entry, Item, Row};
+use cells::{Cell, Entry, Item, Room, Row};
 pub use filled::{Filled, Loaded};
 pub use filled_at::FilledAt;
 pub use first::First;
@@ -24,7 +24,7 @@ pub use iter::Iter;
 use iter::first_filled;
 use once_cell::race::{Note, OnceBox};
 use opened::Opened;
-use std::alloc::Global;
+use std::alloc::{AllocError, Global};
 use std::array;
 
 /// A table with an entry for each number from 0 to `MAX_INDEX`. An entry is filled at most once.
@@ -121,23 +121,28 @@ impl<T: Labelled + Drop> ThreadLocal<T> {
         Ok(self.buckets[bucket].get_or_try_init_as(move || cells::row(alloc, capacity), note)?)
     }
 
-    // The entry's cell, in its bucket, which is made where it isn't yet. A bucket is made with a cell for each of its entries,
-    // so the refusal below is only that of memory: the bucket's own cell does not say how many entries the bucket has.
-    fn cell<'a>(&'a self, thread: Thread, note: &mut Note<Row<T>>) -> Result<&'a Cell<T>, Refusal>
+    // All the memory of a fill: a box for the entry's value, and then the entry's cell, in its bucket, which is made where it isn't yet. So
+    // a refusal leaves the table as it was. A bucket is made with a cell for each of its entries, so the refusal below is only that of
+    // memory: the bucket's own cell does not say how many entries the bucket has.
+    fn room<'a>(
+        &'a self,
+        thread: Thread,
+        note: &mut Note<Row<T>>,
+    ) -> Result<(Room<T>, &'a Cell<T>), Refusal>
         requires { IsBucket (cells_of self.now) thread.bucket note.old.cell }
         ensures bucket { note.new.cell ≡ note.old.cell }
-        ensures cell { IfOk result (λ cell. IsCell note.new thread.entry cell.now) }
+        ensures cell { IfOk result (λ room. IsCell note.new thread.entry room.1.now) }
         ensures refusal { IfErr result (λ e. e ≡ NoMemory) }
     {
+        let room = Box::new(self.alloc, None).map_err(AllocError::from)?;
         match self.row(thread.bucket, note)?.get(thread.entry) {
-            Some(cell) => Ok(cell),
+            Some(cell) => Ok((room, cell)),
             None => Err(Refusal::NoMemory),
         }
     }
 
-    // Fills the entry where it isn't filled yet. All memory comes before `create` is called, and the entry's own before that of its bucket,
-    // so a refusal leaves the table as it was. An entry that is in its cell has a value, so the last refusal is that of no call: the cell
-    // does not tell a proof what another thread put in.
+    // Fills the entry where it isn't filled yet. All memory is there before `create` is called. An entry that is in its cell has a value,
+    // so the last refusal is that of no call: the cell does not tell a proof what another thread put in.
     fn fill<F: FnOnce() -> T>(&self, create: F, thread: Thread) -> Result<Loaded<'_, T>, Refusal>
     where
         F: Drop,
@@ -145,9 +150,8 @@ impl<T: Labelled + Drop> ThreadLocal<T> {
         ensures shown { IfOk result (λ found. ShowsEntry T.label (cells_of self.now) thread found.filled found.value.now) }
         ensures refusal { IfErr result (λ e. e ≡ NoMemory) }
     {
-        let room = cells::room(self.alloc)?;
         let mut row = self.buckets[thread.bucket].note();
-        let cell = self.cell(thread, &mut row)?;
+        let (room, cell) = self.room(thread, &mut row)?;
         let mut note = cell.note();
         match cell.get_or_init_as(move || cells::filled(room, create), &mut note) {
             Some(entry) => {
@@ -169,11 +173,8 @@ impl<T: Labelled + Drop> ThreadLocal<T> {
         ensures shown { IfOk result (λ filled. ShowsEntry T.label (cells_of self.now) thread filled value) }
         ensures back { IfErr result (λ back. back ≡ value) }
     {
-        let Ok(mut room) = cells::room(self.alloc) else {
-            return Err(value);
-        };
         let mut row = self.buckets[thread.bucket].note();
-        let Ok(cell) = self.cell(thread, &mut row) else {
+        let Ok((mut room, cell)) = self.room(thread, &mut row) else {
             return Err(value);
         };
         let (entry, meaning) = Entry::named(value);

@@ -69,22 +69,17 @@ pub(super) struct Item<T: Labelled> {
     pub(super) meaning: Meaning<T>,
 }
 
-/// An entry's cell. Its box is made before the value is, so it holds an `Option`; a box that is in a cell has a value.
+/// An entry's box. It is made before the value is, so it holds an `Option`; a box that is in a cell has a value.
+pub(super) type Room<T> = Box<Option<Entry<T>>>;
+
+/// An entry's cell.
 pub(super) type Cell<T> = OnceBox<Option<Entry<T>>>;
 
 /// The cells of a bucket.
 pub(super) type Row<T> = Vec<Cell<T>>;
 
-/// A box for an entry's value, with none in it yet: so the memory is there before a value is made.
-pub(super) fn room<T: Labelled + Drop>(alloc: Global) -> Result<Box<Option<Entry<T>>>, AllocError> {
-    Ok(Box::new(alloc, None)?)
-}
-
 /// The box with what `create` answers.
-pub(super) fn filled<T: Labelled + Drop, F: FnOnce() -> T>(
-    mut room: Box<Option<Entry<T>>>,
-    create: F,
-) -> Box<Option<Entry<T>>>
+pub(super) fn filled<T: Labelled + Drop, F: FnOnce() -> T>(mut room: Room<T>, create: F) -> Room<T>
     requires { F.pre create }
     ensures { (x : T) × F.post create x × IfSome result.value (λ seen. seen.0 ≡ T.label x) }
 {
