@@ -1,5 +1,5 @@
 //! Works that look numbers up, and one that follows references.
-ghost use Rattle.std.specs.Prelude.{◌≡◌, ◌%◌};
+ghost use Rattle.std.specs.Prelude.{◌≡◌, ◌/◌, ◌%◌};
 ghost use Rattle.seize_store.specs.RowTokens.{family_in};
 ghost use Rattle.seize_store.specs.Named.{row_is, store_by, store_name};
 
@@ -75,8 +75,11 @@ pub(crate) fn look<R: Clock + CpuClock + Threads + Sync>(
     )
 }
 
-/// How many numbers are looked up by one token: those from a multiple of 32 on are of one row.
+/// How many numbers are looked up by one token: the chunks from an entry on that is a multiple of 32 are of one row.
 const BY_ONE: usize = 32;
+
+/// How far apart the numbers of chunks lie that are neighbours in a row.
+const APART: usize = 64;
 
 fn some_found(
     store: &Store<u64, (), u64>,
@@ -84,11 +87,14 @@ fn some_found(
     numbers: &[usize],
     seen: &mut TypedRowToken<u64, (), u64>,
 ) -> u64
-    requires { (store_by seen.old ≡ store_name store.now) × row_is seen.old first × (first % 32 ≡ 0) }
+    requires { (store_by seen.old ≡ store_name store.now) × row_is seen.old first × (first / 64 % 32 ≡ 0) }
 {
     let mut sum = 0u64;
     for number in numbers.iter() {
-        if first <= *number && *number - first < BY_ONE {
+        if first <= *number
+            && *number % APART == first % APART
+            && *number - first < BY_ONE * APART
+        {
             sum = sum.wrapping_add(*store.at(*number, seen).header());
         }
     }
@@ -100,7 +106,7 @@ fn each_by_token(store: &Store<u64, (), u64>, numbers: &[usize]) -> u64 {
     for _ in 0..PASSES {
         for part in numbers.chunks(BY_ONE) {
             if let Some(first) = part.first()
-                && first.is_multiple_of(BY_ONE)
+                && (*first / APART).is_multiple_of(BY_ONE)
                 && let Some(mut seen) = store.seen(*first)
             {
                 sum = sum.wrapping_add(some_found(store, *first, part, &mut seen));

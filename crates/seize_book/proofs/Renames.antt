@@ -82,11 +82,11 @@ fresh_at n held place number fits = (another_with (key_of held) place 0 (cell_of
 
 -- of a block in a store, one with this number and with the place of the content there
 pub places : (r m : _) (n : Name) (held : List (HeldKey Entry)) (number : ℕ) (fits : number < 2 ^ 64) (known : RowToken)
-    → let place : ℕ = content_in known.chunks (entry_of known.row number) in
+    → let place : ℕ = content_in known.chunks (entry_of number) in
     Places (record { marker = r; name = n; held = held }) number known (record { marker = m; name = n; held = with_label (fresh_at n held place number fits) held })
 unfolding fresh_at
 places r m n held number fits known =
-    let bound = past (after (start n) (own_of held)).named in let v = another_with (key_of held) (content_in known.chunks (entry_of known.row number)) 0 (cell_of (label_of held)) number bound.0 fits in
+    let bound = past (after (start n) (own_of held)).named in let v = another_with (key_of held) (content_in known.chunks (entry_of number)) 0 (cell_of (label_of held)) number bound.0 fits in
     record { value = v.0; book = refl; held = refl; home = v.1; numbered = v.2; unnamed = bound.1 v.0 v.3; place = v.4; cell = v.6; free = v.5 }
 
 pub placed_at : (n : Name) (held : List (HeldKey Entry)) (place number : ℕ) (fits : number < 2 ^ 64)

@@ -13,10 +13,9 @@ use Rattle.seize_machine.specs.Machine.State.{State, has}
 use Rattle.seize_machine.proofs.Facts.{eq_true, is_true}
 use denote.RawPtr.{Ptr}
 use Rattle.seize_table.specs.Filled.{filled_at}
-use Rattle.seize_table.specs.Place.{IsPlace}
 use Rattle.seize_table.specs.Pairs.{left_of, pair, right_of}
 use Rattle.seize_table.proofs.Pairs.{left_pair, right_pair}
-use Rattle.seize_store.specs.RowTokens.{IsRowIn, content_in, entry_of, known_row, label_in, tells}
+use Rattle.seize_store.specs.RowTokens.{IsInRow, IsRowIn, content_in, entry_of, known_row, label_in, row_of, tells}
 use Rattle.seize_store.proofs.Leads.{known_tells, tells_agree, tells_twice}
 use Rattle.seize_store.proofs.Tokens.{row_twice}
 use native.Mathlib.Decide.{ℕ_discrete}
@@ -54,19 +53,22 @@ here u us = ap (λ (b : Bool). b || has u us) (equal u u refl)
 there : (u v : ℕ) (us : List ℕ) → has v us ≡ true → has v (u ∷ us) ≡ true
 there u v us h = ap (λ (b : Bool). (u == v) || b) h ∙ or_true (u == v)
 
--- whether an entry of a row is the place of a number
-is_place : (b row e : ℕ) → Dec (IsPlace b row e)
-is_place b row e = go (ℕ_discrete (2 ^ (row + 5) + e) (b + 32)) (is_true (nat_lt e (2 ^ (row + 5))))
+-- whether a number is one of a row
+is_in_row : (b row : ℕ) → Dec (IsInRow b row)
+is_in_row b row = go (entry_of b) refl (ℕ_discrete (row_of b) row)
   where
-    go : Dec (2 ^ (row + 5) + e ≡ b + 32) → (nat_lt e (2 ^ (row + 5)) ≡ true) ⊎ (nat_lt e (2 ^ (row + 5)) ≡ false) → Dec (IsPlace b row e)
-    go (no out) less = no (λ p. out p.place)
-    go (yes is) (inl less) = yes (record { place = is; within = grind arith })
-    go (yes is) (inr past) = no (λ p. let less : e < 2 ^ (row + 5) = p.within in absurd (grind arith))
+    below : (e : ℕ) → e ≡ entry_of b → row_of b ≡ row → (nat_lt e (2 ^ (row + 5)) ≡ true) ⊎ (nat_lt e (2 ^ (row + 5)) ≡ false) → Dec (IsInRow b row)
+    below e at is (inl less) = let low : e < 2 ^ (row + 5) = grind arith in yes (record { lies = is; within = subst (λ (k : ℕ). k < 2 ^ (row + 5)) at low })
+    below e at is (inr past) = no (λ p. let low : e < 2 ^ (row + 5) = subst (λ (k : ℕ). k < 2 ^ (row + 5)) (sym at) p.within in absurd (grind arith))
+
+    go : (e : ℕ) → e ≡ entry_of b → Dec (row_of b ≡ row) → Dec (IsInRow b row)
+    go e at (no out) = no (λ p. out p.lies)
+    go e at (yes is) = below e at is (is_true (nat_lt e (2 ^ (row + 5))))
 
 -- its block has the label there
 abbrev pub IsIn : Name → ℕ → List (Ptr × ℕ) → ℕ → Type 0
 IsIn n row chunks v =
-    IsPlace (block_number v) row (entry_of row (block_number v)) → (label_in chunks (entry_of row (block_number v)) ≡ chunk_label n (home_of v) (cell_of v)) × (content_in chunks (entry_of row (block_number v)) ≡ place_of v)
+    IsInRow (block_number v) row → (label_in chunks (entry_of (block_number v)) ≡ chunk_label n (home_of v) (cell_of v)) × (content_in chunks (entry_of (block_number v)) ≡ place_of v)
 
 abbrev pub AreIn : Name → ℕ → List (Ptr × ℕ) → List ℕ → Type 0
 AreIn n row chunks vs = (v : ℕ) → has v vs ≡ true → IsIn n row chunks v
@@ -344,12 +346,12 @@ module _ {M : Type 1} {𝓤 : Ura M} (𝓛 : Logic 𝓤) (n : Name) where
 
   -- a key whose value's number leads to its home, as a token of the number's row shows
   pub placed : (store : List ℕ) (row : ℕ) (chunks : List (Ptr × ℕ)) (held : Keys) (v : ℕ) → is_one blocks held ≡ true → n.store ≡ store → IsRowIn store row chunks
-      → IsPlace (block_number v) row (entry_of row (block_number v)) → (label_in chunks (entry_of row (block_number v)) ≡ chunk_label n (home_of v) (cell_of v)) × (content_in chunks (entry_of row (block_number v)) ≡ place_of v) → CarriesNone v
+      → IsInRow (block_number v) row → (label_in chunks (entry_of (block_number v)) ≡ chunk_label n (home_of v) (cell_of v)) × (content_in chunks (entry_of (block_number v)) ≡ place_of v) → CarriesNone v
       → cell_of (label_of held) ≡ cell_of v → ⟦ rights_own n held ⟧ ∗ ⟦ notes_own held ⟧ ∗ ⟦ known_row store row chunks ⟧ ⊢ ⟦ keys_own n (with_label v held) ⟧
   placed store row chunks [] v one is made place there free cell = absurd (cc)
   placed store row chunks (h ∷ g ∷ held) v one is made place there free cell = absurd (cc)
   placed store row chunks (h ∷ []) v one is made place there free cell = let b : ℕ = block_number v in let h' : HeldKey Entry = record { kind = h.kind; key = h.key; own = h.own; label = v; note = h.note } in
-      let t : ℕ × ℕ = (label_in chunks (entry_of row b), content_in chunks (entry_of row b)) in let same : t ≡ chunk_tag n v = λ j. (there.0 j, there.1 j) in
+      let t : ℕ × ℕ = (label_in chunks (entry_of b), content_in chunks (entry_of b)) in let same : t ≡ chunk_tag n v = λ j. (there.0 j, there.1 j) in
       qed 𝓛 (‵ (rights_own n (h ∷ [])) ∷ ‵ (notes_own (h ∷ [])) ∷ ‵ (known_row store row chunks) ∷ []) ∵ move ! (2 ∷ []) $ use1 𝓛 (‵ (tells store b t)) (known_tells 𝓛 store b row chunks made place) $
       rewrite ! 0 (λ (u : ℕ × ℕ). ‵ (tells store b u)) same refl $ rewrite ! 0 (λ (s : List ℕ). ‵ (tells s b (chunk_tag n v))) (sym is) refl $ use1 𝓛 (‵ (leads n v)) (leads_free v free) $
       -- [where it leads; the right; the note]
@@ -368,11 +370,11 @@ module _ {M : Type 1} {𝓤 : Ura M} (𝓛 : Logic 𝓤) (n : Name) where
 
   in_one : (store : List ℕ) (row : ℕ) (chunks : List (Ptr × ℕ)) → IsRowIn store row chunks → n.store ≡ store → (v : ℕ)
       → ⟦ leads n v ⟧ ∗ ⟦ known_row store row chunks ⟧ ⊢ guard 𝓤 (IsIn n row chunks v) (⟦ leads n v ⟧ ∗ ⟦ known_row store row chunks ⟧)
-  in_one store row chunks made is v = go (is_place (block_number v) row (entry_of row (block_number v)))
+  in_one store row chunks made is v = go (is_in_row (block_number v) row)
     where
-      go : Dec (IsPlace (block_number v) row (entry_of row (block_number v))) → ⟦ leads n v ⟧ ∗ ⟦ known_row store row chunks ⟧ ⊢ guard 𝓤 (IsIn n row chunks v) (⟦ leads n v ⟧ ∗ ⟦ known_row store row chunks ⟧)
+      go : Dec (IsInRow (block_number v) row) → ⟦ leads n v ⟧ ∗ ⟦ known_row store row chunks ⟧ ⊢ guard 𝓤 (IsIn n row chunks v) (⟦ leads n v ⟧ ∗ ⟦ known_row store row chunks ⟧)
       go (no out) = qed 𝓛 (‵ (leads n v) ∷ ‵ (known_row store row chunks) ∷ []) ∵ check ! (λ place. absurd (out place)) $ done !
-      go (yes place) = let b : ℕ = block_number v in let K : Fml = known_row store row chunks in let t : ℕ × ℕ = (label_in chunks (entry_of row b), content_in chunks (entry_of row b)) in let Same : Type 0 = t ≡ chunk_tag n v in
+      go (yes place) = let b : ℕ = block_number v in let K : Fml = known_row store row chunks in let t : ℕ × ℕ = (label_in chunks (entry_of b), content_in chunks (entry_of b)) in let Same : Type 0 = t ≡ chunk_tag n v in
           qed 𝓛 (‵ (leads n v) ∷ ‵ K ∷ []) ∵ use1 𝓛 (‵ (leads n v) ⊛ ‵ (leads n v)) (lead_twice v) $ split ! $ fsplit ! $ move ! (1 ∷ []) $ drop ! $ rewrite ! 0 (λ (s : List ℕ). ‵ (tells s b (chunk_tag n v))) is refl $
           move ! (2 ∷ []) $ use1 𝓛 (‵ K ⊛ ‵ K) (row_twice 𝓛 store row chunks) $ split ! $ use1 𝓛 (‵ (tells store b t)) (known_tells 𝓛 store b row chunks made place) $
           -- [where the number leads by the row; the row; where it leads by the book; that once more]

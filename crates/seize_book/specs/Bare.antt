@@ -12,9 +12,8 @@
 use Rattle.std.specs.Prelude.{◌≡◌, ℕ, pos, true, false, List, [], ◌∷◌}
 use base.Stored.{Gv, gnil}
 use Rattle.seize_machine.specs.Machine.State.{State, has}
-use Rattle.seize_store.specs.RowTokens.{content_in, entry_of, label_in}
+use Rattle.seize_store.specs.RowTokens.{IsInRow, content_in, entry_of, label_in}
 use Rattle.seize_store.specs.declared.row_token.RowToken.{RowToken}
-use Rattle.seize_table.specs.Place.{IsPlace}
 use Rattle.seize_book.specs.Blocks.{block_number}
 use Rattle.seize_book.specs.Book.{after, blocks, counts, fields}
 use Rattle.seize_book.specs.Books.{IsCountAt, IsFieldAt, IsNextIn}
@@ -40,8 +39,8 @@ state_in rights = after (start rights.name) (own_of rights.held)
 pub record IsWay (rights : Rights) (number : ℕ) (known : RowToken) : Type 0 where
   pub one : is_one blocks rights.held ≡ true
   pub store : rights.name.store ≡ known.store
-  pub placed : IsPlace number known.row (entry_of known.row number)
-  pub home : label_in known.chunks (entry_of known.row number)
+  pub placed : IsInRow number known.row
+  pub home : label_in known.chunks (entry_of number)
       ≡ chunk_label rights.name (key_of rights.held) (cell_of (label_of rights.held))
 
 pub record Places (rights : Rights) (number : ℕ) (known : RowToken) (keys : Keys) : Type 0 where
@@ -51,7 +50,7 @@ pub record Places (rights : Rights) (number : ℕ) (known : RowToken) (keys : Ke
   pub home : home_of value ≡ key_of rights.held
   pub numbered : block_number value ≡ number
   pub unnamed : has value (state_in rights).named ≡ false
-  pub place : place_of value ≡ content_in known.chunks (entry_of known.row number)
+  pub place : place_of value ≡ content_in known.chunks (entry_of number)
   pub cell : cell_of value ≡ cell_of (label_of rights.held)
   pub free : CarriesNone value
 

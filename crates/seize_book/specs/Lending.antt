@@ -104,8 +104,8 @@ MayWithdraw keys pass =
 abbrev pub IsRowAt : Name → ℕ → RowToken → Type 0
 IsRowAt n v known =
     (known.store ≡ n.store) × IsRowOf known (block_number v)
-    × (label_in known.chunks (entry_of known.row (block_number v)) ≡ chunk_label n (home_of v) (cell_of v))
-    × (content_in known.chunks (entry_of known.row (block_number v)) ≡ place_of v)
+    × (label_in known.chunks (entry_of (block_number v)) ≡ chunk_label n (home_of v) (cell_of v))
+    × (content_in known.chunks (entry_of (block_number v)) ≡ place_of v)
 
 abbrev pub GoesWith : ValueKey → Pool → Type 0
 GoesWith value pool = Carries (value_of value) pool.name pool.value

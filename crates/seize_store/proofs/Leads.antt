@@ -8,14 +8,12 @@ use contract.Monad.{fact, fact_i}
 use denote.RawPtr.{Ptr}
 use denote.Steps.{heard}
 use Rattle.seize_table.specs.Pairs.{left_of, right_of}
-use Rattle.seize_table.specs.Place.{IsPlace}
-use Rattle.seize_table.proofs.Places.{one_bucket}
-use Rattle.seize_store.specs.RowTokens.{IsRowIn, Way, chunk_in, content_in, entry_of, known_row, label_in, leads_where, lends_by, tells}
+use Rattle.seize_store.specs.RowTokens.{IsInRow, IsRowIn, Way, chunk_in, content_in, entry_of, known_row, label_in, leads_where, lends_by, tells}
 use Rattle.seize_store.proofs.Tokens.{row_twice, known_agree}
 
 module _ {M : Type 1} {𝓤 : Ura M} (𝓛 : Logic 𝓤) (store : List ℕ) (n : ℕ) where
   -- what a token of the number's row shows
-  known_shows : (φ : ℕ → Type 0) (row : ℕ) (chunks : List (Ptr × ℕ)) → IsRowIn store row chunks → IsPlace n row (entry_of row n) → φ (chunk_in chunks (entry_of row n)).1
+  known_shows : (φ : ℕ → Type 0) (row : ℕ) (chunks : List (Ptr × ℕ)) → IsRowIn store row chunks → IsInRow n row → φ (chunk_in chunks (entry_of n)).1
       → ent 𝓤 (sem 𝓛 (known_row store row chunks)) (sem 𝓛 (leads_where store n φ))
   known_shows φ row chunks made placed tagged =
       qed 𝓛 (‵ (known_row store row chunks) ∷ []) ∵ fpack ! (Way store n φ) (λ way. known_row store way.row way.chunks) (record { row = row; chunks = chunks; made = made; placed = placed; tagged = tagged }) $ done !
@@ -31,17 +29,17 @@ module _ {M : Type 1} {𝓤 : Ura M} (𝓛 : Logic 𝓤) (store : List ℕ) (n :
 
     agree : ent 𝓤 (sep 𝓤 (sem 𝓛 (leads_where store n (Says k))) (sem 𝓛 (leads_where store n (Says j)))) (fact 𝓤 (k ≡ j))
     agree = qed 𝓛 (‵ (leads_where store n (Says k)) ∷ ‵ (leads_where store n (Says j)) ∷ []) ∵ fpick ! (λ v. move ! (1 ∷ 0 ∷ []) $ fpick ! (λ w. move ! (1 ∷ 0 ∷ []) $
-        let row : v.row ≡ w.row = one_bucket n v.row (entry_of v.row n) w.row (entry_of w.row n) v.placed w.placed in let Same : Type 0 = v.chunks ≡ w.chunks in
+        let row : v.row ≡ w.row = sym v.placed.lies ∙ w.placed.lies in let Same : Type 0 = v.chunks ≡ w.chunks in
         rewrite ! 0 (λ (r : ℕ). ‵ (known_row store r v.chunks)) row refl $ use2 𝓛 (raw (fact 𝓤 Same)) (known_agree 𝓛 store w.row v.chunks w.chunks) $ heard ! Same (λ same. by ! (fact_i 𝓤 (k ≡ j) _
-        (sym v.tagged ∙ (ap (λ (ps : List (Ptr × ℕ)). of (chunk_in ps (entry_of v.row n)).1) same ∙ (ap (λ (r : ℕ). of (chunk_in w.chunks (entry_of r n)).1) row ∙ w.tagged)))))))
+        (sym v.tagged ∙ (ap (λ (ps : List (Ptr × ℕ)). of (chunk_in ps (entry_of n)).1) same ∙ w.tagged))))))
 
   pub lends_twice : (γ : ℕ) → ent 𝓤 (sem 𝓛 (lends_by store n γ)) (sep 𝓤 (sem 𝓛 (lends_by store n γ)) (sem 𝓛 (lends_by store n γ)))
   lends_twice γ = twice (λ tag. right_of tag ≡ γ)
 
-  pub known_tells : (row : ℕ) (chunks : List (Ptr × ℕ)) → IsRowIn store row chunks → IsPlace n row (entry_of row n)
-      → ent 𝓤 (sem 𝓛 (known_row store row chunks)) (sem 𝓛 (tells store n (label_in chunks (entry_of row n), content_in chunks (entry_of row n))))
+  pub known_tells : (row : ℕ) (chunks : List (Ptr × ℕ)) → IsRowIn store row chunks → IsInRow n row
+      → ent 𝓤 (sem 𝓛 (known_row store row chunks)) (sem 𝓛 (tells store n (label_in chunks (entry_of n), content_in chunks (entry_of n))))
   known_tells row chunks made placed =
-      known_shows (λ tag. (left_of tag, right_of tag) ≡ (label_in chunks (entry_of row n), content_in chunks (entry_of row n))) row chunks made placed refl
+      known_shows (λ tag. (left_of tag, right_of tag) ≡ (label_in chunks (entry_of n), content_in chunks (entry_of n))) row chunks made placed refl
 
   pub tells_twice : (t : ℕ × ℕ) → ent 𝓤 (sem 𝓛 (tells store n t)) (sep 𝓤 (sem 𝓛 (tells store n t)) (sem 𝓛 (tells store n t)))
   tells_twice t = twice (λ tag. (left_of tag, right_of tag) ≡ t)

@@ -18,8 +18,7 @@
 --     hollow_title o, hollow_store o, hollow_number o, hollow_label o, hollow_content o     the same of what has no value either
 use Rattle.std.specs.Prelude.{◌≡◌, ℕ, ◌+◌, ◌==◌, if◌then◌else◌, List, [], ◌∷◌, ◌++◌, All, map, length, take, vec_len}
 use denote.RawPtr.{Ptr}
-use Rattle.seize_table.specs.Place.{IsPlace}
-use Rattle.seize_store.specs.RowTokens.{entry_of, label_in, place_in}
+use Rattle.seize_store.specs.RowTokens.{IsInRow, entry_of, label_in, place_in}
 use Rattle.seize_store.specs.Titled.{names_of_rows}
 use Rattle.seize_store.specs.Titled as titled
 use Rattle.seize_store.specs.declared.bare.Bare.{Bare}
@@ -79,16 +78,16 @@ abbrev pub chunks_by : {H P T : Type 0} {g : Ghosts H} → TypedRowToken H P T g
 chunks_by seen = seen.known.chunks
 
 abbrev pub row_is : {H P T : Type 0} {g : Ghosts H} → TypedRowToken H P T g → ℕ → Type 0
-row_is seen number = IsPlace number seen.known.row (entry_of seen.known.row number)
+row_is seen number = IsInRow number seen.known.row
 
 abbrev pub place_by : {H P T : Type 0} {g : Ghosts H} → TypedRowToken H P T g → ℕ → Ptr
-place_by seen number = place_in seen.known.chunks (entry_of seen.known.row number)
+place_by seen number = place_in seen.known.chunks (entry_of number)
 
 abbrev pub label_by : {H P T : Type 0} {g : Ghosts H} → TypedRowToken H P T g → ℕ → ℕ
-label_by seen number = label_in seen.known.chunks (entry_of seen.known.row number)
+label_by seen number = label_in seen.known.chunks (entry_of number)
 
 abbrev pub IsRowOf : RowToken → ℕ → Type 0
-IsRowOf known number = IsPlace number known.row (entry_of known.row number)
+IsRowOf known number = IsInRow number known.row
 
 abbrev pub lies_of : {H P T : Type 0} → Place H P T → Ptr
 lies_of place = place.chunk.now.at

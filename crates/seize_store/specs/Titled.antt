@@ -17,19 +17,19 @@ use Rattle.seize_store.specs.declared.row.Rows.{Rows}
 use Rattle.seize_store.specs.RowTokens.{AreKin, IsRowIn, chunk_in, content_in, entry_of, family_in, label_in, place_in, row_name}
 
 abbrev pub chunk_of : Title → Ptr × ℕ
-chunk_of t = chunk_in t.known.chunks (entry_of t.known.row t.number)
+chunk_of t = chunk_in t.known.chunks (entry_of t.number)
 
 abbrev pub title_place : Title → Ptr
-title_place t = place_in t.known.chunks (entry_of t.known.row t.number)
+title_place t = place_in t.known.chunks (entry_of t.number)
 
 abbrev pub title_tag : Title → ℕ
-title_tag t = (chunk_in t.known.chunks (entry_of t.known.row t.number)).1
+title_tag t = (chunk_in t.known.chunks (entry_of t.number)).1
 
 abbrev pub title_label : Title → ℕ
-title_label t = label_in t.known.chunks (entry_of t.known.row t.number)
+title_label t = label_in t.known.chunks (entry_of t.number)
 
 abbrev pub titled_content : Title → ℕ
-titled_content t = content_in t.known.chunks (entry_of t.known.row t.number)
+titled_content t = content_in t.known.chunks (entry_of t.number)
 
 abbrev pub names_of_rows : {H P T : Type 0} {g : Ghosts H} → Rows H P T g → List ℕ
 names_of_rows rows = rows.identity.name ∷ rows.family.number ∷ map (λ c. c.1.1) rows.cells

@@ -34,8 +34,8 @@ impl<H, P: Labelled + Drop, T: Drop> Bare<H, P, T> {
     pub fn known(&self) -> &RowToken
         ensures known { result.now ≡ bare_known self.now }
         ensures row { (result.now.store ≡ bare_store self.now) × IsRowOf result.now (bare_number self.now) }
-        ensures label { bare_label self.now ≡ label_in result.now.chunks (entry_of result.now.row (bare_number self.now)) }
-        ensures content { bare_content self.now ≡ content_in result.now.chunks (entry_of result.now.row (bare_number self.now)) }
+        ensures label { bare_label self.now ≡ label_in result.now.chunks (entry_of (bare_number self.now)) }
+        ensures content { bare_content self.now ≡ content_in result.now.chunks (entry_of (bare_number self.now)) }
     {
         &self.title.known
     }

@@ -31,7 +31,7 @@ impl<H: Labelled + Drop, P: Labelled + Drop, T: Drop> Store<H, P, T> {
     pub fn back(&self, number: usize, known: &RowToken, ticket: Ticket, pool: Pool) -> Bare<H, P, T>
         requires store { known.now.store ≡ store_name self.now }
         requires row { IsRowOf known.now number }
-        requires loan { IsLent ticket pool × (ticket.name ≡ content_in known.now.chunks (entry_of known.now.row number)) }
+        requires loan { IsLent ticket pool × (ticket.name ≡ content_in known.now.chunks (entry_of number)) }
         ensures title { (bare_number result ≡ number) × (bare_known result ≡ known.now) }
         ensures value { T.row.coded.code (bare_value result) ≡ pool.value }
     {
@@ -55,7 +55,7 @@ impl<H: Labelled + Drop, P: Labelled + Drop, T> Store<H, P, T> {
     pub fn see<'g>(&'g self, number: usize, known: &RowToken, sight: Sight<'g>) -> &'g T
         requires store { known.now.store ≡ store_name self.now }
         requires row { IsRowOf known.now number }
-        requires loan { sight.name ≡ content_in known.now.chunks (entry_of known.now.row number) }
+        requires loan { sight.name ≡ content_in known.now.chunks (entry_of number) }
         ensures { T.row.coded.code result.now ≡ sight.entry.value }
     {
         let (row, entry) = self.row_of(number, known);

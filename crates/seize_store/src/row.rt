@@ -1,9 +1,7 @@
 //! A row of chunks, and the cells that the rows stand in. It cuts the memory of `strip` into chunks of `chunk`; `store` keeps the rows.
 ghost use Rattle.std.specs.Prelude.{◌≡◌, ◌+◌, ◌^◌, ◌<◌, All, IfOk, IfSome, length};
-ghost use Rattle.seize_store.specs.RowTokens.{AreKin, label_in, place_in};
+ghost use Rattle.seize_store.specs.RowTokens.{AreKin, IsInRow, entry_of, label_in, place_in, row_of};
 ghost use Rattle.seize_table.specs.Pairs.{left_of};
-ghost use Rattle.seize_table.specs.Place.{IsPlace};
-ghost use Rattle.seize_table.specs.Table.{entry_number};
 
 use crate::block::Hull;
 use crate::chunk::{Base, Body, Chunk};
@@ -17,11 +15,16 @@ use crate::once_of::OnceOf;
 use crate::strip::{Rooms, Strip};
 use seize_content::{Pool, Sight, Start, Ticket};
 use seize_table::Labelled;
-use seize_table::thread_id::{BUCKETS, Thread};
 use std::alloc::{AllocError, Global};
 use std::array;
 use std::marker::Model;
 use std_alloc::room::may_hold;
+
+/// How many rows a store may have. No memory holds the last one, and the numbers of all their chunks stay below 2^63.
+pub(crate) const ROWS: usize = 53;
+
+// How far apart the numbers of neighbours in a row lie. A number's remainder by it is the row.
+const APART: usize = 64;
 
 /// A chunk that is closed when its store lets it go, and its content.
 pub(crate) struct Kept<H: Labelled + Drop, P: Labelled + Drop, T> {
@@ -76,12 +79,28 @@ impl<H: Labelled + Drop, P: Labelled + Drop, T> Kin for Row<H, P, T> {
     ghost is_of = { λ family chunks. AreKin family chunks };
 }
 
-/// The number whose place is that entry of that row.
-pub(crate) fn number_at_place(row: usize, entry: usize) -> usize
-    requires { (row < BUCKETS) × (entry < 2 ^ (row + 5)) }
-    ensures { (result ≡ entry_number row entry) × IsPlace result row entry }
+/// How many chunks a row has.
+pub(crate) fn capacity(row: usize) -> usize
+    requires { row < ROWS }
+    ensures { result ≡ 2 ^ (row + 5) }
 {
-    Thread::bucket_capacity(row) - 32 + entry
+    1 << (row + 5)
+}
+
+/// The number of the chunk at that entry of that row.
+pub(crate) fn number_at(row: usize, entry: usize) -> usize
+    requires { (row < ROWS) × (entry < 2 ^ (row + 5)) }
+    ensures { IsInRow result row × (entry_of result ≡ entry) }
+{
+    entry * APART + row
+}
+
+/// The row and the entry of a number, whether there is such a row or not.
+#[inline(always)]
+pub(crate) fn place_of(number: usize) -> (usize, usize)
+    ensures { (result.0 ≡ row_of number) × (result.1 ≡ entry_of number) }
+{
+    (number % APART, number / APART)
 }
 
 impl<H: Labelled + Drop, P: Labelled + Drop, T> Row<H, P, T> {
@@ -94,10 +113,10 @@ impl<H: Labelled + Drop, P: Labelled + Drop, T> Row<H, P, T> {
         bucket: usize,
         maker: &M,
     ) -> Result<Row<H, P, T>, AllocError>
-        requires { bucket < BUCKETS }
+        requires { bucket < ROWS }
         ensures { IfOk result (λ row. AreKin (M.family maker.now) row) }
     {
-        let len = Thread::bucket_capacity(bucket);
+        let len = capacity(bucket);
         let mut chunks = Vec::with_capacity(alloc, len)?;
         if len == usize::MAX || !may_hold::<Body<H, P, T>>(len + 1) {
             return Err(AllocError);
@@ -106,7 +125,7 @@ impl<H: Labelled + Drop, P: Labelled + Drop, T> Row<H, P, T> {
         for entry in 0..len {
             let (piece, rest) = strip.cut();
             strip = rest;
-            let (header, part) = maker.make(number_at_place(bucket, entry));
+            let (header, part) = maker.make(number_at(bucket, entry));
             let (start, ticket) = Start::new();
             let chunk = Chunk::of(piece, header, part, ticket);
             let lender = Lender::of(&chunk, start);
@@ -172,10 +191,10 @@ impl<H: Labelled + Drop, P: Labelled + Drop, T> Row<H, P, T> {
 /// The cells of the rows, each filled at most once, and what their store alone has.
 #[derive(Drop)]
 pub(crate) struct Rows<H: Labelled + Drop, P: Labelled + Drop, T> {
-    pub(crate) cells: [OnceOf<Row<H, P, T>>; 59],
+    pub(crate) cells: [OnceOf<Row<H, P, T>>; 53],
     pub(crate) identity: Identity,
     pub(crate) family: Family,
-    ghost all_there: { 59 ≡ length cells },
+    ghost all_there: { 53 ≡ length cells },
     ghost kin: { All (λ cell. cell.0 ≡ family.number) cells },
 }
 
@@ -201,7 +220,7 @@ impl<H: Labelled + Drop, P: Labelled + Drop, T> Rows<H, P, T> {
 
     /// The row of this index, where it is made, and a note that knows it.
     pub(crate) fn found(&self, bucket: usize) -> Option<(&Row<H, P, T>, NoteOf<Row<H, P, T>>)>
-        requires { bucket < BUCKETS }
+        requires { bucket < ROWS }
         ensures { IfSome result (λ found. IsRowNote (names_of_rows self.now) bucket found.0.now found.1) }
     {
         let cell = &self.cells[bucket];
@@ -216,7 +235,7 @@ impl<H: Labelled + Drop, P: Labelled + Drop, T> Rows<H, P, T> {
         bucket: usize,
         maker: &M,
     ) -> Result<(&Row<H, P, T>, NoteOf<Row<H, P, T>>), AllocError>
-        requires bucket { bucket < BUCKETS }
+        requires bucket { bucket < ROWS }
         requires family { M.family maker.now ≡ family_of self.now }
         ensures { IfOk result (λ made. IsRowNote (names_of_rows self.now) bucket made.0.now made.1) }
     {

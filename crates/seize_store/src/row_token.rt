@@ -4,8 +4,7 @@ ghost use Rattle.std.specs.Prelude.{◌≡◌, ℕ, List};
 ghost use base.Stored.{coded_list, coded×, coded_ℕ};
 ghost use denote.RawPtr.{Ptr, coded_ptr};
 ghost use denote.Sharing.{said};
-ghost use Rattle.seize_table.specs.Place.{IsPlace};
-ghost use Rattle.seize_store.specs.RowTokens.{IsRowIn, entry_of, known_row};
+ghost use Rattle.seize_store.specs.RowTokens.{IsInRow, IsRowIn, known_row};
 
 mod tells;
 
@@ -51,5 +50,5 @@ pub struct Title {
     pub(crate) number: usize,
     pub(crate) alloc: Global,
     pub(crate) known: RowToken,
-    ghost placed: { IsPlace number known.row (entry_of known.row number) },
+    ghost placed: { IsInRow number known.row },
 }

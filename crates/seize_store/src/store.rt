@@ -12,10 +12,9 @@ use crate::family::Family;
 use crate::kin::NoteOf;
 use crate::maker::Maker;
 use crate::owned::Owned;
-use crate::row::{Row, Rows, number_at_place};
+use crate::row::{ROWS, Row, Rows, capacity, number_at, place_of};
 use crate::row_token::{RowToken, Title};
 use crate::spot::{Spot, Spots};
-use seize_table::thread_id::{BUCKETS, Thread};
 use seize_table::{Labelled, Refusal};
 use std::alloc::Global;
 use std::sync::atomic::AtomicUsize;
@@ -73,7 +72,7 @@ impl<H: Labelled + Drop, P: Labelled + Drop, T> Store<H, P, T> {
     }
 
     /// A block of the value, from any thread. It asks for memory only where no chunk was found in, and then makes the first row that is
-    /// missing: row b has 2^(b + 5) chunks, which are written before the call returns, and `maker` makes the header and the owner's part
+    /// missing: row r has 2^(r + 5) chunks, which are written before the call returns, and `maker` makes the header and the owner's part
     /// of each from its number. Threads that race for a row each make it, and all but one give theirs up, whose headers and parts end. The
     /// call looks at each chunk at most twice, and waits for nobody. What the maker makes has to be of the store's family.
     ///
@@ -129,7 +128,7 @@ impl<H: Labelled + Drop, P: Labelled + Drop, T> Store<H, P, T> {
         if let Some(spot) = self.near_hint() {
             return Ok(spot);
         }
-        for bucket in 0..BUCKETS {
+        for bucket in 0..ROWS {
             let (row, note) = self.rows.made(self.alloc, bucket, maker)?;
             if let Some(spot) = self.spot_in(bucket, 0, row, note) {
                 return Ok(spot);
@@ -141,15 +140,19 @@ impl<H: Labelled + Drop, P: Labelled + Drop, T> Store<H, P, T> {
     fn near_hint(&self) -> Option<Spot<H, P, T>>
         ensures { IfSome result (λ spot. spot_store spot ≡ store_name self.now) }
     {
-        let place = Thread::new(self.hint.load(SeqCst))?;
-        let (row, note) = self.rows.found(place.bucket)?;
-        self.spot_in(place.bucket, place.entry, row, note)
+        let (bucket, entry) = place_of(self.hint.load(SeqCst));
+        if bucket >= ROWS {
+            return None;
+        }
+        let (row, note) = self.rows.found(bucket)?;
+        self.spot_in(bucket, entry, row, note)
     }
 
-    // The next search begins at that number, or at most so many before it.
+    // The next search begins at that number, or at most so many chunks before it in its row.
     fn move_hint(&self, number: usize) {
-        let hint = self.hint.load(SeqCst);
-        if number < hint || number - hint >= BEHIND {
+        let (bucket, entry) = place_of(number);
+        let (hint_bucket, hint_entry) = place_of(self.hint.load(SeqCst));
+        if bucket != hint_bucket || entry < hint_entry || entry - hint_entry >= BEHIND {
             self.hint.store(number, SeqCst);
         }
     }
@@ -162,17 +165,17 @@ impl<H: Labelled + Drop, P: Labelled + Drop, T> Store<H, P, T> {
         row: &Row<H, P, T>,
         note: NoteOf<Row<H, P, T>>,
     ) -> Option<Spot<H, P, T>>
-        requires { (bucket < BUCKETS) × IsRowNote (store_name self.now) bucket row.now note }
+        requires { (bucket < ROWS) × IsRowNote (store_name self.now) bucket row.now note }
         ensures { IfSome result (λ spot. spot_store spot ≡ store_name self.now) }
     {
-        let end = Thread::bucket_capacity(bucket);
+        let end = capacity(bucket);
         if row.len() != end {
             return None;
         }
         let (entry, out) = first_in(row, from, end)?;
         let mut note = note;
         let known = RowToken::of(&self.rows, bucket, &mut note);
-        let number = number_at_place(bucket, entry);
+        let number = number_at(bucket, entry);
         self.move_hint(number);
         let title = Title {
             number,

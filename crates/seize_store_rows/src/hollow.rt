@@ -101,7 +101,7 @@ fn a_value_ends_with_who_took_it_out(rt: HostRuntime) -> Result<(), Fail> {
     let ends = Ends::new();
     let (numbers, taken, back) = taken_and_used_again(rt.alloc(), &ends)?;
     // While the value is out, its number is nobody else's.
-    assert_eq!(rt; numbers, (0, 1, 0));
+    assert_eq!(rt; numbers, (0, 64, 0));
     assert_eq!(rt; (taken, back), ((0, 0, 1), (0, 0, 1)));
     assert_eq!(rt; ends.told(), (32, 32, 3));
     Ok(())
@@ -180,7 +180,7 @@ fn a_hollow_that_is_dropped_stays_out(rt: HostRuntime) -> Result<(), Fail> {
     assert_eq!(rt; (value.name, ends.told()), (7, (0, 0, 0)));
     drop(value);
     let next = added(&store, &maker, &ends, 8)?;
-    assert_eq!(rt; (next.number(), ends.told()), (1, (0, 0, 1)));
+    assert_eq!(rt; (next.number(), ends.told()), (64, (0, 0, 1)));
     drop(store);
     assert_eq!(rt; ends.told(), (32, 30, 1));
     drop(next);

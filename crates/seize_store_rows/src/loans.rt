@@ -16,7 +16,7 @@ pub(crate) fn seen<'g, H: Labelled + Drop, P: Labelled + Drop, T>(
 ) -> &'g T
     requires store { known.now.store ≡ store_name store.now }
     requires row { IsRowOf known.now number }
-    requires loan { pool.now.name ≡ content_in known.now.chunks (entry_of known.now.row number) }
+    requires loan { pool.now.name ≡ content_in known.now.chunks (entry_of number) }
     ensures { T.row.coded.code result.now ≡ pool.now.value }
 {
     store.see(number, known, pool.sight())

@@ -4,7 +4,7 @@ ghost use Rattle.seize_store.specs.RowTokens.{family_in};
 ghost use Rattle.seize_store.specs.Named.{AreOfStore, owned_label, owned_value, store_name, title_of};
 ghost use Rattle.seize_table.specs.Pairs.{pair};
 
-use crate::values::{Counted, Numbered, Pairs, Tally};
+use crate::values::{Counted, Numbered, Pairs, Tally, nth};
 use seize_store::{Family, Labelled, Maker, Owned, Spots, Store};
 use seize_table::Refusal;
 use std::alloc::Global;
@@ -63,8 +63,8 @@ fn a_part_goes_with_its_block(rt: HostRuntime) -> Result<(), Fail> {
         assert_eq!(rt; number, owned.number());
         all.push(owned)?;
     }
-    for (number, owned) in all.iter().enumerate() {
-        assert_eq!(rt; (owned.number(), **owned), (number, number as u64));
+    for (rank, owned) in all.iter().enumerate() {
+        assert_eq!(rt; (owned.number(), **owned), (nth(rank), rank as u64));
     }
     Ok(())
 }
@@ -75,9 +75,9 @@ fn a_bare_block_has_its_number(rt: HostRuntime) -> Result<(), Fail> {
     let first = told(store.add(7u64, &Numbers))?;
     let second = told(store.add(8u64, &Numbers))?;
     let (part, bare) = second.split();
-    assert_eq!(rt; (part.number, bare.number()), (1, 1));
+    assert_eq!(rt; (part.number, bare.number()), (64, 64));
     let second = bare.with(part);
-    assert_eq!(rt; (first.number(), second.number()), (0, 1));
+    assert_eq!(rt; (first.number(), second.number()), (0, 64));
     assert_eq!(rt; (first.into_inner(), second.into_inner()), (7, 8));
     Ok(())
 }
@@ -175,7 +175,7 @@ fn a_chunk_without_its_part_stays_out(rt: HostRuntime) -> Result<(), Fail> {
         name: 8,
     };
     let next = told(store.add(value, &maker))?;
-    assert_eq!(rt; next.number(), 1);
+    assert_eq!(rt; next.number(), 64);
     drop(store);
     assert_eq!(rt; (part.name, count(&headers), count(&parts)), (0, 32, 30));
     drop(next);

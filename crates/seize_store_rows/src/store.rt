@@ -4,7 +4,7 @@ ghost use Rattle.seize_store.specs.RowTokens.{family_in};
 ghost use Rattle.seize_store.specs.Named.{AreOfStore, owned_value, store_name, title_of};
 
 use crate::node::Node;
-use crate::values::{Counted, Numbered, Pairs, Tallies, Tally, Zero};
+use crate::values::{Counted, Numbered, Pairs, Tallies, Tally, Zero, nth};
 use seize_store::{
     Bare, Family, Hollow, Labelled, Owned, Place, RowToken, Spots, Store, TypedRowToken,
 };
@@ -37,10 +37,10 @@ fn numbers_follow_each_other_and_are_used_again(rt: HostRuntime) -> Result<(), F
     let first = added(&store, 10)?;
     let second = added(&store, 11)?;
     assert_eq!(rt; (first.number(), *first), (0, 10));
-    assert_eq!(rt; (second.number(), *second), (1, 11));
+    assert_eq!(rt; (second.number(), *second), (64, 11));
     assert_eq!(rt; second.into_inner(), 11);
     let again = added(&store, 12)?;
-    assert_eq!(rt; (again.number(), *again), (1, 12));
+    assert_eq!(rt; (again.number(), *again), (64, 12));
     Ok(())
 }
 
@@ -76,11 +76,11 @@ fn many(
 }
 
 #[test]
-fn blocks_that_stand_have_the_numbers_from_0_on(rt: HostRuntime) -> Result<(), Fail> {
+fn blocks_that_stand_have_the_first_numbers_row_by_row(rt: HostRuntime) -> Result<(), Fail> {
     let store = Store::new(rt.alloc(), &Family::new(0));
     let all = many(rt.alloc(), &store, 300)?;
-    for (number, owned) in all.iter().enumerate() {
-        assert_eq!(rt; (owned.number(), **owned), (number, number as u64));
+    for (rank, owned) in all.iter().enumerate() {
+        assert_eq!(rt; (owned.number(), **owned), (nth(rank), rank as u64));
     }
     Ok(())
 }
@@ -89,18 +89,26 @@ fn blocks_that_stand_have_the_numbers_from_0_on(rt: HostRuntime) -> Result<(), F
 fn rows_are_made_one_at_a_time(rt: HostRuntime) -> Result<(), Fail> {
     let store = Store::new(rt.alloc(), &Family::new(0));
     let first = many(rt.alloc(), &store, 32)?;
-    assert!(rt; store.seen(31).is_some() && store.seen(32).is_none());
+    assert!(rt; store.seen(1984).is_some() && store.seen(1).is_none());
     let next = added(&store, 32)?;
-    assert!(rt; store.seen(32).is_some() && store.seen(95).is_some());
-    assert!(rt; store.seen(96).is_none());
-    assert_eq!(rt; (first.len(), next.number()), (32, 32));
+    assert!(rt; store.seen(1).is_some() && store.seen(4033).is_some());
+    assert!(rt;
+        store.seen(2).is_none() && store.seen(2048).is_none() && store.seen(4097).is_none()
+    );
+    assert_eq!(rt; (first.len(), next.number()), (32, 1));
     Ok(())
 }
 
 // What the header of the row's last chunk has, by the token that the row's first number gave.
 fn last_of_the_first_row(store: &Store<Tally, Numbered, u64>) -> Option<u64> {
     let mut seen = store.seen(0)?;
-    Some(store.at(31, &mut seen).header().sum.load(Ordering::SeqCst))
+    Some(
+        store
+            .at(1984, &mut seen)
+            .header()
+            .sum
+            .load(Ordering::SeqCst),
+    )
 }
 
 #[test]
@@ -311,9 +319,9 @@ fn a_full_list_gives_64_chunks_back(rt: HostRuntime) -> Result<(), Fail> {
     assert_eq!(rt; kept(&store, &mut spots, 129)?, 8385);
     assert_eq!(rt; standing.len(), 95);
     let again = many(rt.alloc(), &store, 64)?;
-    assert!(rt; again.iter().all(|owned| owned.number() < 224));
-    // All are out once more, so the next block has a new number.
-    assert_eq!(rt; added(&store, 0)?.number(), 224);
+    assert!(rt; again.iter().all(|owned| owned.number() % 64 < 3));
+    // All are out once more, so the next block has a number of the fourth row.
+    assert_eq!(rt; added(&store, 0)?.number(), 3);
     Ok(())
 }
 
@@ -323,9 +331,9 @@ fn the_chunks_of_a_list_that_ends_are_in_again(rt: HostRuntime) -> Result<(), Fa
     let mut spots = Spots::new(rt.alloc())?;
     assert_eq!(rt; kept(&store, &mut spots, 96)?, 4656);
     drop(spots);
-    // No two that stand have one number, so these are the numbers from 0 to 95 again.
+    // No two that stand have one number, so these are the numbers of the first two rows again.
     let again = many(rt.alloc(), &store, 96)?;
-    assert_eq!(rt; again.iter().map(Owned::number).max(), Some(95));
+    assert!(rt; again.iter().all(|owned| owned.number() % 64 < 2));
     Ok(())
 }
 
@@ -357,7 +365,7 @@ fn a_value_is_changed_in_its_chunk(rt: HostRuntime) -> Result<(), Fail> {
     let twice = second.saturating_mul(2);
     set(&mut second, twice);
     assert_eq!(rt; (first.number(), *first), (0, 1));
-    assert_eq!(rt; (second.number(), second.into_inner()), (1, 14));
+    assert_eq!(rt; (second.number(), second.into_inner()), (64, 14));
     let store = Store::new(rt.alloc(), &Family::new(0));
     let mut counted = added(
         &store,

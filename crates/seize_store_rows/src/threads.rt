@@ -3,7 +3,7 @@ ghost use Rattle.std.specs.Prelude.{◌≡◌};
 ghost use Rattle.seize_store.specs.RowTokens.{family_in};
 ghost use Rattle.seize_store.specs.Named.{store_name};
 
-use crate::values::{Counted, Numbered, Tallies, Tally, Zero};
+use crate::values::{Counted, Numbered, Tallies, Tally, Zero, nth};
 use seize_store::{Family, Owned, Store};
 use seize_table::Refusal;
 use std::alloc::Global;
@@ -172,11 +172,11 @@ fn stores_end_beside_their_blocks(rt: HostRuntime) -> Result<(), Fail> {
 
 const ROUND: usize = 1000;
 
-// So many blocks, which all stand, and the greatest of their numbers.
+// So many blocks, which all stand, and the last row in which one lies.
 fn taken(alloc: Global, store: &Store<u64, (), u64>) -> (Option<Vec<Owned<u64, (), u64>>>, usize)
     requires { family_in (store_name store.now) ≡ 0 }
 {
-    let mut greatest = 0;
+    let mut last = 0;
     let Ok(mut all) = Vec::with_capacity(alloc, ROUND) else {
         return (None, 0);
     };
@@ -184,16 +184,16 @@ fn taken(alloc: Global, store: &Store<u64, (), u64>) -> (Option<Vec<Owned<u64, (
         let Ok(owned) = store.add(value as u64, &Zero) else {
             return (None, 0);
         };
-        greatest = greatest.max(owned.number());
+        last = last.max(owned.number() % 64);
         if all.push(owned).is_err() {
             return (None, 0);
         }
     }
-    (Some(all), greatest)
+    (Some(all), last)
 }
 
-// 1,000 rounds, in each of which one thread takes a thousand blocks and another gives those of the round before. The greatest numbers
-// in the first tenth and in all.
+// 1,000 rounds, in each of which one thread takes a thousand blocks and another gives those of the round before. The last row in
+// which a block lies, in the first tenth and in all.
 fn rounds<R: Threads + Sync>(rt: &R, alloc: Global, store: &Store<u64, (), u64>) -> (usize, usize)
     requires { family_in (store_name store.now) ≡ 0 }
 {
@@ -207,9 +207,9 @@ fn rounds<R: Threads + Sync>(rt: &R, alloc: Global, store: &Store<u64, (), u64>)
             { taken(alloc, store) },
             move || drop(given),
         );
-        let (all, greatest) = made;
+        let (all, last) = made;
         given = all;
-        late = greatest.max(late);
+        late = last.max(late);
         if round < 100 {
             early = late;
         }
@@ -221,15 +221,16 @@ fn rounds<R: Threads + Sync>(rt: &R, alloc: Global, store: &Store<u64, (), u64>)
 fn a_store_stops_growing(rt: HostRuntime) {
     let store = Store::new(rt.alloc(), &Family::new(0));
     let (early, late) = rounds(&rt, rt.alloc(), &store);
-    // A thousand blocks stand at once, so their numbers go to 999 at least. At most 2,000 stand, and one thread alone claims, so a chunk
-    // that is in stays in until that thread comes to it: the six rows that have the numbers below 2,016 are enough.
-    assert!(rt; early >= 999 && late < 2016, "{early} and {late}");
+    // A thousand blocks stand at once, and five rows have 992 chunks. At most 2,000 stand, and one thread alone claims, so a chunk that is
+    // in stays in until that thread comes to it: six rows, which have 2,016 chunks, are enough.
+    assert!(rt; early == 5 && late == 5, "{early} and {late}");
 }
 
-// How many of the numbers below 200 lead to no header with that number. Each header that is found counts it.
+// How many of the first 200 numbers lead to no header with that number. Each header that is found counts it.
 fn wrongly_labelled(store: &Store<Tally, Numbered, u64>) -> u64 {
     let mut wrong = 0u64;
-    for number in 0..200 {
+    for rank in 0..200 {
+        let number = nth(rank);
         let right = store.find(number).is_some_and(|found| {
             let header = found.0.header();
             header.sum.fetch_add(1, Ordering::SeqCst);

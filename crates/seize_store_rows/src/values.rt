@@ -93,3 +93,17 @@ impl<'a> Maker<Counted<'a>, Counted<'a>> for Pairs<'a> {
         (header, part)
     }
 }
+
+/// The number of the chunk that comes so many after the first one, row by row, in the first four rows.
+pub(crate) fn nth(rank: usize) -> usize {
+    let (row, before) = if rank < 32 {
+        (0, 0)
+    } else if rank < 96 {
+        (1, 32)
+    } else if rank < 224 {
+        (2, 96)
+    } else {
+        (3, 224)
+    };
+    rank.wrapping_sub(before).wrapping_mul(64).wrapping_add(row)
+}

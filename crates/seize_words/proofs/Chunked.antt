@@ -1,13 +1,12 @@
 -- What the label of a chunk says, which a pass has found by the number of a value. These facts are for callers.
 use Rattle.std.proofs.Math.Pow.{pow_mono}
-use Rattle.std.proofs.Common.{◌≡◌, ℕ, ◌+◌, ◌<◌, ◌≤◌, ◌^◌, true, length, sym, ◌∙◌, ap, subst, arith}
+use Rattle.std.proofs.Common.{◌≡◌, ℕ, ◌+◌, ◌/◌, ◌<◌, ◌≤◌, ◌^◌, true, length, sym, ◌∙◌, ap, subst, arith}
 use Rattle.std.proofs.lemmas.List.Elements.{All-get_or}
 use denote.RawPtr.{Ptr, null_ptr}
 use Rattle.seize_machine.specs.Machine.State.{has}
-use Rattle.seize_store.specs.RowTokens.{content_in, entry_of, family_in, label_in}
+use Rattle.seize_store.specs.RowTokens.{IsInRow, content_in, entry_of, family_in, label_in}
 use Rattle.seize_store.specs.declared.row_token.RowToken.{RowToken}
 use Rattle.seize_table.specs.Pairs.{left_of, of_family, pair, right_of}
-use Rattle.seize_table.specs.Place.{IsPlace}
 use Rattle.seize_table.proofs.Pairs.{left_pair, right_pair}
 use Rattle.seize_book.specs.Blocks.{block_number}
 use Rattle.seize_book.specs.Book.{after}
@@ -54,9 +53,9 @@ abbrev pub label : Header → ℕ
 label header = chunk_label header.book.name (home header.count) header.note.name
 
 -- the labels of a store's chunks are of its family
-pub label_kin : (known : RowToken) (number : ℕ) → IsPlace number known.row (entry_of known.row number)
-    → left_of (label_in known.chunks (entry_of known.row number)) ≡ family_in known.store
-label_kin known number placed = let e : ℕ = entry_of known.row number in let within = placed.within in let long = known.made.1 in let less : e < length known.chunks = omega (arith, within, long) in
+pub label_kin : (known : RowToken) (number : ℕ) → IsInRow number known.row
+    → left_of (label_in known.chunks (entry_of number)) ≡ family_in known.store
+label_kin known number placed = let e : ℕ = entry_of number in let within = placed.within in let long = known.made.1 in let less : e < length known.chunks = omega (arith, within, long) in
     All-get_or (λ (chunk : Ptr × ℕ). of_family (family_in known.store) (left_of chunk.1)) known.chunks e (null_ptr, 0) less known.made.2
 
 -- what a pass has seen named stays so
@@ -66,25 +65,25 @@ named_seen pass pass' v looks named =
     (named_later (start pass.name) pass.seen pass'.seen v looks.grows looks.legal named)
 
 -- what has the label of the number's chunk has that of each value with this number
-pub found_label : (known : RowToken) (pass : Pass) (label number : ℕ) → AreAt pass.name known (state_seen pass) → IsPlace number known.row (entry_of known.row number)
-    → label ≡ label_in known.chunks (entry_of known.row number)
+pub found_label : (known : RowToken) (pass : Pass) (label number : ℕ) → AreAt pass.name known (state_seen pass) → IsInRow number known.row
+    → label ≡ label_in known.chunks (entry_of number)
     → (v : ℕ) → has v (state_seen pass).named ≡ true → block_number v ≡ number → label ≡ chunk_label pass.name (home_of v) (cell_of v)
 found_label known pass label number homes placed its v named is =
-    its ∙ (ap (λ (k : ℕ). label_in known.chunks (entry_of known.row k)) (sym is)
-    ∙ (homes v named (subst (λ (k : ℕ). IsPlace k known.row (entry_of known.row k)) (sym is) placed)).0)
+    its ∙ (ap (λ (k : ℕ). label_in known.chunks (entry_of k)) (sym is)
+    ∙ (homes v named (subst (λ (k : ℕ). IsInRow k known.row) (sym is) placed)).0)
 
 -- and the content of that chunk is the place of each
-pub found_content : (known : RowToken) (pass : Pass) (number : ℕ) → AreAt pass.name known (state_seen pass) → IsPlace number known.row (entry_of known.row number)
-    → (v : ℕ) → has v (state_seen pass).named ≡ true → block_number v ≡ number → content_in known.chunks (entry_of known.row number) ≡ place_of v
+pub found_content : (known : RowToken) (pass : Pass) (number : ℕ) → AreAt pass.name known (state_seen pass) → IsInRow number known.row
+    → (v : ℕ) → has v (state_seen pass).named ≡ true → block_number v ≡ number → content_in known.chunks (entry_of number) ≡ place_of v
 found_content known pass number homes placed v named is =
-    ap (λ (k : ℕ). content_in known.chunks (entry_of known.row k)) (sym is)
-    ∙ (homes v named (subst (λ (k : ℕ). IsPlace k known.row (entry_of known.row k)) (sym is) placed)).1
+    ap (λ (k : ℕ). content_in known.chunks (entry_of k)) (sym is)
+    ∙ (homes v named (subst (λ (k : ℕ). IsInRow k known.row) (sym is) placed)).1
 
 -- a number of the store fits into a word beside 2
-pub number_fits : (known : RowToken) (number : ℕ) → IsPlace number known.row (entry_of known.row number) → number + 2 < 2 ^ 64
+pub number_fits : (known : RowToken) (number : ℕ) → IsInRow number known.row → number + 2 < 2 ^ 64
 number_fits known number placed =
-    let row : known.row < 59 = known.made.0 in let below : 2 ^ (known.row + 5) ≤ 2 ^ 63 = pow_mono {i = known.row + 5} {j = 63} (omega (arith, row)) in
-    let is = placed.place in let within = placed.within in omega (arith, below, is, within)
+    let row : known.row < 53 = known.made.0 in let below : 2 ^ (known.row + 5) ≤ 2 ^ 57 = pow_mono {i = known.row + 5} {j = 57} (omega (arith, row)) in
+    let within : number / 64 < 2 ^ (known.row + 5) = placed.within in omega (arith, below, within)
 
 -- a block that came back by `redeem` is as one that was added, once its key is settled
 pub settles_block : {T : Type 0} (last : ℕ) (blocks : Blocks T) (value : T) (key key' : ValueKey) (block : Bare Header Part T) (pass' : Pass) → IsBlockAfter last blocks value key block

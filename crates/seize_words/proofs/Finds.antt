@@ -7,9 +7,8 @@ use Rattle.seize_machine.specs.Machine.State.{State, Rest, has, linked_values, a
 use Rattle.seize_machine.specs.Machine.History.{first_or_none}
 use Rattle.seize_machine.specs.Machine.Laws.{IsHeld, Walks, walk_of}
 use Rattle.seize_machine.proofs.Facts.{batched_named}
-use Rattle.seize_store.specs.RowTokens.{entry_of, label_in}
+use Rattle.seize_store.specs.RowTokens.{IsInRow, entry_of, label_in}
 use Rattle.seize_store.specs.declared.row_token.RowToken.{RowToken}
-use Rattle.seize_table.specs.Place.{IsPlace}
 use Rattle.seize_book.specs.Blocks.{Plan, block_number, front_of, no_plan, plans}
 use Rattle.std.specs.Prelude.{slice_index_or, unwrap_or}
 use Rattle.seize_book.specs.Book.{IsLegalList, after}
@@ -71,13 +70,13 @@ module _ (known : RowToken) (key : SlotKey) (pass : Pass) (book : IsKeyOfBook ke
   walks = subst (λ (z : Name). Walks (after (start z) own) (slot_number key) b) book (subst (λ o. Contains (walk_of o) b) (sym walking) (zero, omega arith, refl))
 
   -- the label is the home of a living value with this number
-  living_home : (v number : ℕ) → number ≡ block_number v → IsLiving v (after st own) → IsPlace number known.row (entry_of known.row number) → label_in known.chunks (entry_of known.row number) ≡ chunk_label pass.name (home_of v) (cell_of v)
+  living_home : (v number : ℕ) → number ≡ block_number v → IsLiving v (after st own) → IsInRow number known.row → label_in known.chunks (entry_of number) ≡ chunk_label pass.name (home_of v) (cell_of v)
   living_home v number is living placed =
       let named : has v (state_seen pass).named ≡ true = named_later st own pass.seen v grows legal living.0 in
-      ap (λ (k : ℕ). label_in known.chunks (entry_of known.row k)) is
-      ∙ (homes v named (subst (λ (k : ℕ). IsPlace k known.row (entry_of known.row k)) is placed)).0
+      ap (λ (k : ℕ). label_in known.chunks (entry_of k)) is
+      ∙ (homes v named (subst (λ (k : ℕ). IsInRow k known.row) is placed)).0
 
   -- the first block of the batch
-  pub front_home : (front number : ℕ) → front_of (start_of key) own b ≡ Some front → number ≡ block_number front → IsPlace number known.row (entry_of known.row number)
-      → label_in known.chunks (entry_of known.row number) ≡ chunk_label pass.name (home_of front) (cell_of front)
+  pub front_home : (front number : ℕ) → front_of (start_of key) own b ≡ Some front → number ≡ block_number front → IsInRow number known.row
+      → label_in known.chunks (entry_of number) ≡ chunk_label pass.name (home_of front) (cell_of front)
   front_home front number is its = living_home front number its (front_living pass.name own distinct its_own b front (slot_number key) walks (subst (λ (z : Name). front_of (start z) own b ≡ Some front) book is))

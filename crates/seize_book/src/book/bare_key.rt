@@ -38,9 +38,9 @@ impl BareKey {
     pub fn place(self, number: u64, known: &RowToken) -> ValueKey
         requires store { (bare_book self).store ≡ known.now.store }
         requires row { IsRowOf known.now number }
-        requires home { label_in known.now.chunks (entry_of known.now.row number) ≡ bare_key_label self }
+        requires home { label_in known.now.chunks (entry_of number) ≡ bare_key_label self }
         ensures becomes { Becomes self result number }
-        ensures content { place_of (value_of result) ≡ content_in known.now.chunks (entry_of known.now.row number) }
+        ensures content { place_of (value_of result) ≡ content_in known.now.chunks (entry_of number) }
     {
         let mut rights = self.rights;
         ValueKey {

@@ -4,11 +4,10 @@ ghost use Rattle.seize_store.specs.RowTokens.{chunk_in, entry_of, label_in, plac
 ghost use Rattle.seize_store.specs.Named.{IsRowOf, chunks_by, header_of, label_by, lies_of, place_by, row_by, row_is, store_by, store_name};
 
 use super::{Place, TypedRowToken};
-use crate::row::Row;
+use crate::row::{ROWS, Row, capacity, place_of};
 use crate::row_token::RowToken;
 use crate::store::Store;
 use seize_table::Labelled;
-use seize_table::thread_id::Thread;
 
 impl<'a, H, P: Labelled, T> Place<'a, H, P, T> {
     /// The chunk's header, for as long as the store is borrowed.
@@ -26,13 +25,16 @@ impl<H: Labelled + Drop, P: Labelled + Drop, T> Store<H, P, T> {
         ensures place { IfSome result (λ found. lies_of found.0 ≡ place_by found.1 number) }
         ensures label { IfSome result (λ found. H.label (header_of found.0) ≡ label_by found.1 number) }
     {
-        let place = Thread::new(number)?;
-        let (row, mut note) = self.rows.found(place.bucket)?;
-        if row.len() != Thread::bucket_capacity(place.bucket) {
+        let (bucket, entry) = place_of(number);
+        if bucket >= ROWS || entry >= capacity(bucket) {
             return None;
         }
-        let chunk = row.chunk(place.entry);
-        let known = RowToken::of(&self.rows, place.bucket, &mut note);
+        let (row, mut note) = self.rows.found(bucket)?;
+        if row.len() != capacity(bucket) {
+            return None;
+        }
+        let chunk = row.chunk(entry);
+        let known = RowToken::of(&self.rows, bucket, &mut note);
         Some((chunk, TypedRowToken { note, known }))
     }
 
@@ -55,19 +57,17 @@ impl<H: Labelled + Drop, P: Labelled + Drop, T> Store<H, P, T> {
         ensures place { lies_of result ≡ place_by seen.old number }
         ensures label { H.label (header_of result) ≡ label_by seen.old number }
     {
-        let Some(place) = Thread::new(number) else {
-            unreachable!();
-        };
-        let row = self.row(place.bucket, seen);
-        row.chunk(place.entry)
+        let (bucket, entry) = place_of(number);
+        let row = self.row(bucket, seen);
+        row.chunk(entry)
     }
 
     /// The same for whoever has a token free of the store's types.
     pub fn place(&self, number: usize, known: &RowToken) -> Place<'_, H, P, T>
         requires store { known.now.store ≡ store_name self.now }
         requires row { IsRowOf known.now number }
-        ensures place { lies_of result ≡ place_in known.now.chunks (entry_of known.now.row number) }
-        ensures label { H.label (header_of result) ≡ label_in known.now.chunks (entry_of known.now.row number) }
+        ensures place { lies_of result ≡ place_in known.now.chunks (entry_of number) }
+        ensures label { H.label (header_of result) ≡ label_in known.now.chunks (entry_of number) }
     {
         let (row, entry) = self.row_of(number, known);
         row.chunk(entry)
@@ -77,18 +77,16 @@ impl<H: Labelled + Drop, P: Labelled + Drop, T> Store<H, P, T> {
     pub(crate) fn row_of(&self, number: usize, known: &RowToken) -> (&Row<H, P, T>, usize)
         requires { (known.now.store ≡ store_name self.now) × IsRowOf known.now number }
         ensures { (result.1 < length result.0.now)
-            × (chunk_in result.0.now result.1 ≡ chunk_in known.now.chunks (entry_of known.now.row number)) }
+            × (chunk_in result.0.now result.1 ≡ chunk_in known.now.chunks (entry_of number)) }
     {
-        let Some(place) = Thread::new(number) else {
-            unreachable!();
-        };
-        let row = self.known_row(place.bucket, known);
-        (row, place.entry)
+        let (bucket, entry) = place_of(number);
+        let row = self.known_row(bucket, known);
+        (row, entry)
     }
 
     // The row that the token shows.
     fn known_row(&self, bucket: usize, known: &RowToken) -> &Row<H, P, T>
-        requires { (store_name self.now ≡ known.now.store) × (bucket ≡ known.now.row) × (bucket < 59) }
+        requires { (store_name self.now ≡ known.now.store) × (bucket ≡ known.now.row) × (bucket < 53) }
         ensures { result.now ≡ known.now.chunks }
     {
         let cell = &self.rows.cells[bucket];
@@ -102,7 +100,7 @@ impl<H: Labelled + Drop, P: Labelled + Drop, T> Store<H, P, T> {
 
     // The row that the token shows.
     fn row(&self, bucket: usize, seen: &mut TypedRowToken<H, P, T>) -> &Row<H, P, T>
-        requires { (store_by seen.old ≡ store_name self.now) × (row_by seen.old ≡ bucket) × (bucket < 59) }
+        requires { (store_by seen.old ≡ store_name self.now) × (row_by seen.old ≡ bucket) × (bucket < 53) }
         ensures { (seen.new ≡ seen.old) × (result.now ≡ chunks_by seen.old) }
     {
         let (Some(row), _) = self.rows.cells[bucket].found(seen.note.again()) else {

@@ -1,21 +1,17 @@
-use Rattle.std.proofs.Common.{◌≡◌, ℕ, List, sym, ap, ◌∙◌, subst}
+use Rattle.std.proofs.Common.{◌≡◌, ℕ, List, sym, ap, ◌∙◌}
 use denote.RawPtr.{Ptr}
-use Rattle.seize_table.specs.Place.{IsPlace}
-use Rattle.seize_table.proofs.Places.{one_bucket}
-use Rattle.seize_store.specs.RowTokens.{entry_of, place_in}
+use Rattle.seize_store.specs.RowTokens.{entry_of, place_in, row_of}
 use Rattle.seize_store.specs.Titled.{title_place}
 use Rattle.seize_store.specs.declared.row_token.Title.{Title}
 use Rattle.seize_store.proofs.spot.Spot.apart.Goals as goal
 
 -- one number lies in one row
 same_row : (s t : Title) → s.number ≡ t.number → s.known.row ≡ t.known.row
-same_row s t e = let r = t.known.row in
-    one_bucket s.number s.known.row (entry_of s.known.row s.number) r (entry_of r s.number) s.placed (subst (λ (k : ℕ). IsPlace k r (entry_of r k)) (sym e) t.placed)
+same_row s t e = sym s.placed.lies ∙ (ap row_of e ∙ t.placed.lies)
 
 -- and, in one list of chunks, at one place
 same_place : (s t : Title) → s.number ≡ t.number → s.known.chunks ≡ t.known.chunks → title_place s ≡ title_place t
-same_place s t e p =
-    ap (λ (ps : List (Ptr × ℕ)). place_in ps (entry_of s.known.row s.number)) p ∙ (ap (λ (r : ℕ). place_in t.known.chunks (entry_of r s.number)) (same_row s t e) ∙ ap (λ (k : ℕ). place_in t.known.chunks (entry_of t.known.row k)) e)
+same_place s t e p = ap (λ (ps : List (Ptr × ℕ)). place_in ps (entry_of s.number)) p ∙ ap (λ (k : ℕ). place_in t.known.chunks (entry_of k)) e
 
 -- src/spot.rt:51:9
 pub agree-requires : goal.agree-requires

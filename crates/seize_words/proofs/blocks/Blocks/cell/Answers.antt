@@ -13,7 +13,7 @@ use Rattle.seize_words.proofs.blocks.Blocks.cell.Goals as goal
 pub returns : goal.returns
 returns g c =
     let key = c.args.key.now in let v = value_of key in let header = c.header-header.result.now in let known = c.row-row.result in
-    let there = ap (λ (k : ℕ). label_in known.chunks (entry_of known.row k)) (sym c.requires.number) ∙ c.row-row.ensures.row.2 in
+    let there = ap (λ (k : ℕ). label_in known.chunks (entry_of k)) (sym c.requires.number) ∙ c.row-row.ensures.row.2 in
     let its : label header ≡ chunk_label (book_of key) (home_of v) (cell_in key) = ap label c.header-header.ensures ∙ c.place-place.ensures.label ∙ there in
     record {
       cell = same_cell header.book.name (book_of key) (home header.count) header.note.name (home_of v) (cell_in key) its;

@@ -9,4 +9,4 @@ pub see-requires : goal.see-requires
 see-requires g c =
     let known = c.row-row.result in let row = c.row-row.ensures.row in let is = c.requires.lent.1 in let carries = c.sight.ensures.sight in
     let store = row.0 ∙ (ap (λ (n : Name). n.store) c.requires.book ∙ c.args.self.now.stands) in
-    (omega arith, (store, (subst (IsRowOf known) is row.1, sym carries.0 ∙ (sym row.3 ∙ ap (λ (k : ℕ). content_in known.chunks (entry_of known.row k)) is))))
+    (omega arith, (store, (subst (IsRowOf known) is row.1, sym carries.0 ∙ (sym row.3 ∙ ap (λ (k : ℕ). content_in known.chunks (entry_of k)) is))))

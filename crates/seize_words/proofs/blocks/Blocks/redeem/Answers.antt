@@ -46,7 +46,7 @@ returns-clause-block g c =
     let looks = subst (λ (pass : Pass). LooksOn pass seen) redeemed.ensures.still.0 sought.ensures.looks in
     let named = named_seen c.args.pass.now seen v looks (handing_named c.args.slot.now c.args.pass.now c.requires.book.1 c.requires.knows v c.requires.soon) in
     let content = found_content known seen number sought.ensures.homes sought.ensures.row.1 v named c.requires.lent.1 in
-    let label = found_label known seen (label_in known.chunks (entry_of known.row number)) number sought.ensures.homes sought.ensures.row.1 refl v named c.requires.lent.1 in
+    let label = found_label known seen (label_in known.chunks (entry_of number)) number sought.ensures.homes sought.ensures.row.1 refl v named c.requires.lent.1 in
     let name : redeemed.new.pass.name ≡ blocks_book c.args.self.now = ap (λ (pass : Pass). pass.name) redeemed.ensures.still.0 ∙ sym c.requires.book.2 in
     let book : book_of key' ≡ blocks_book c.args.self.now = redeemed.ensures.block.0 ∙ (c.requires.book.0 ∙ sym c.requires.book.2) in
     let its : (bare_known block, bare_number block) ≡ (known, number) = λ j. (title.1 j, title.0 j) in (
@@ -57,8 +57,8 @@ returns-clause-block g c =
         next = subst (IsNextAfter key' v) (c.requires.lent.1 ∙ sym title.0) redeemed.ensures.value;
         lies =
             ap (λ (t : Name × (ℕ × ℕ)). chunk_label t.0 t.1.0 t.1.1) (λ j. ((book ∙ sym (looks.same.0 ∙ sym c.requires.book.2)) j, (redeemed.ensures.block.1 j, redeemed.ensures.block.2 j)))
-            ∙ (sym label ∙ ap (λ (t : RowToken × ℕ). label_in t.0.chunks (entry_of t.0.row t.1)) (sym its));
-        content = redeemed.ensures.place ∙ (sym content ∙ ap (λ (t : RowToken × ℕ). content_in t.0.chunks (entry_of t.0.row t.1)) (sym its));
+            ∙ (sym label ∙ ap (λ (t : RowToken × ℕ). label_in t.0.chunks (entry_of t.1)) (sym its));
+        content = redeemed.ensures.place ∙ (sym content ∙ ap (λ (t : RowToken × ℕ). content_in t.0.chunks (entry_of t.1)) (sym its));
         free = redeemed.ensures.free;
         fits = subst (λ (m : ℕ). m + 2 < 2 ^ 64) (sym title.0) (number_fits known number sought.ensures.row.1);
       },

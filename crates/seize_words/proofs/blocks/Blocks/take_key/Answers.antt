@@ -14,7 +14,7 @@ use Rattle.seize_words.proofs.blocks.Blocks.take_key.Goals as goal
 pub agree-requires : goal.agree-requires
 agree-requires g c =
     let part = c.split-part.result.0 in let block = c.split-part.result.1 in let known = c.known-known.result.now in let number : ℕ = bare_number block in
-    let label : chunk_label part.book.name (bare_home part.key) (bare_cell part.key) ≡ label_in known.chunks (entry_of known.row number) = c.split-part.ensures.label ∙ (ap title_label (sym c.split-part.ensures.block.1) ∙ c.known-known.ensures.label) in
+    let label : chunk_label part.book.name (bare_home part.key) (bare_cell part.key) ≡ label_in known.chunks (entry_of number) = c.split-part.ensures.label ∙ (ap title_label (sym c.split-part.ensures.block.1) ∙ c.known-known.ensures.label) in
     let store = c.known-known.ensures.row.0 ∙ (ap (λ (t : Title). t.known.store) c.split-part.ensures.block.1 ∙ (sym c.requires.store ∙ c.args.self.now.stands)) in
     sym (left_pair part.book.name.family (pair (bare_home part.key) (bare_cell part.key)))
     ∙ (ap left_of label ∙ (label_kin known number c.known-known.ensures.row.1 ∙ (ap family_in store ∙ (c.args.self.now.kin ∙ ap (λ (n : Name). n.family) c.requires.book))))

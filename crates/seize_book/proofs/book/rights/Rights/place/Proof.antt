@@ -2,8 +2,7 @@
 use Rattle.seize_book.proofs.Kit.{vint, w64, u64, uint_vals, uint_Tells, ℕ, List, [], ◌∷◌, refl, proved, named, Val, vptr, SProp, emp, Fml, ftrue, fsep, flft, ‵, raw, ◌⊛◌, ◌$◌, ◌∵◌, !, qed, by, move, keep, drop, split, fsplit, fsplit3, fjoin, fjoin3, use0, use3, feq_i, no_more, and_then, returns, enter, alloc_all, pass_all, free_all, look_at, get, sets, agg, fact, fact_i, heard, tables, RefOf, yes, unhide, owns, types_at, plain, mut_vals, mut_Tells, shr_vals, shr_Tells, nothing, opens, closes, Stays, stay_ref, stay_dropped, walk_of, Goes-ref, Goes-dropped}
 use Rattle.seize_store.specs.contracts.row_token.RowToken as RowToken
 use Rattle.std.proofs.Common.{◌∙◌, ap, subst, sym}
-use Rattle.seize_store.specs.RowTokens.{content_in, entry_of, label_in}
-use Rattle.seize_table.specs.Place.{IsPlace}
+use Rattle.seize_store.specs.RowTokens.{IsInRow, content_in, entry_of, label_in}
 use Rattle.seize_book.specs.Bare.{IsWay}
 use Rattle.seize_book.specs.Others.{with_label}
 use Rattle.seize_book.specs.Tokens.{chunk_label, keys_own}
@@ -33,10 +32,10 @@ place_spec 𝓤 𝓛 𝓜 𝓡 wired =
     enter ! 𝓣.C 𝓣.Λ fn (vptr pb po ∷ vint w64 number ∷ vptr kb ko ∷ []) Post $ alloc_all ! (λ l. pass_all ! refl ((tt, tt), ((tt, record { fits = are.1.0.1 }), ((tt, tt), tt))) $
     opens ! tt Rights.the_row pb po (λ vs. move ! (1 ∷ []) $ fsplit ! $ move ! (1 ∷ []) $
     -- [what it owns; it; its cell, in four entries; the other's token; what the token says]
-    let place : ℕ = content_in k.chunks (entry_of k.row number) in let v : ℕ = fresh_at b.name b.held place number are.1.0.1 in let is = placed_at b.name b.held place number are.1.0.1 in let held' = with_label v b.held in
+    let place : ℕ = content_in k.chunks (entry_of number) in let v : ℕ = fresh_at b.name b.held place number are.1.0.1 in let is = placed_at b.name b.held place number are.1.0.1 in let held' = with_label v b.held in
     fsplit ! $ move ! (0 ∷ 1 ∷ 8 ∷ []) $ use3 𝓛 (‵ (keys_own b.name held')) (placed 𝓛 b.name k.store k.row k.chunks b.held v asked.one asked.store k.made
-    (subst (λ (m : ℕ). IsPlace m k.row (entry_of k.row m)) (sym is.1) asked.placed)
-    (ap (λ (m : ℕ). label_in k.chunks (entry_of k.row m)) is.1 ∙ (asked.home ∙ ap (λ (t : ℕ × ℕ). chunk_label b.name t.0 t.1) (λ j. (sym is.0 j, is.4 j))), ap (λ (m : ℕ). content_in k.chunks (entry_of k.row m)) is.1 ∙ sym is.2) is.3 is.4) $
+    (subst (λ (m : ℕ). IsInRow m k.row) (sym is.1) asked.placed)
+    (ap (λ (m : ℕ). label_in k.chunks (entry_of m)) is.1 ∙ (asked.home ∙ ap (λ (t : ℕ × ℕ). chunk_label b.name t.0 t.1) (λ j. (sym is.0 j, is.4 j))), ap (λ (m : ℕ). content_in k.chunks (entry_of m)) is.1 ∙ sym is.2) is.3 is.4) $
     let r : Keys.the_row.Denot = record { marker = record {}; name = b.name; held = held' } in let b' : Rights.the_row.Denot = record b { held = [] } in
     nothing ! $ nothing ! $ fjoin ! $ move ! (2 ∷ 0 ∷ []) $ fjoin ! $ move ! (2 ∷ 0 ∷ 3 ∷ 4 ∷ 5 ∷ []) $ closes ! tt Rights.the_row b' vs pb po $
     -- [it, in two; its token; what the result owns; the other's token]
