@@ -3,7 +3,7 @@ use Rattle.std.proofs.Common.{◌≡◌, ℕ, true, false, List, [], ◌∷◌, 
 use base.Stored.{Gv, gnil, gnum, gcons}
 use Rattle.seize_book.specs.Entry.{Entry}
 use Rattle.seize_book.specs.Ledger.{HeldKey}
-use Rattle.seize_words.specs.LinkSites.{KeyRow, LinkSite, IsShared, first_code, is_still, key_of_row, keys_of_rows, laid, read_from, row_of, rows_of}
+use Rattle.seize_words.specs.LinkSites.{KeyRow, LinkSite, IsShared, first_code, as_row, is_still, key_of_row, keys_of_rows, laid, read_from, rows_of}
 
 pub not_still : (w : LinkSite) → IsShared w → w.still ≡ None
 not_still w is = go w.still is
@@ -25,7 +25,7 @@ read_laid gnil rest done = refl
 read_laid (gnum n) rest done = refl
 read_laid (gcons a b) rest done = read_laid a (laid b (2 ∷ rest)) done ∙ read_laid b (2 ∷ rest) (a ∷ done)
 
-key_back : (h : HeldKey Entry) → key_of_row (row_of h) ≡ h
+key_back : (h : HeldKey Entry) → key_of_row (as_row h) ≡ h
 key_back h = ap (λ (gs : List Gv). record { kind = h.kind; key = h.key; own = h.own; label = h.label; note = first_code gs }) (read_laid h.note [] [])
 
 pub keys_back : (held : List (HeldKey Entry)) → keys_of_rows (rows_of held) ≡ held

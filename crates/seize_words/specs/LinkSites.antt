@@ -1,7 +1,7 @@
 -- What the word of a link is. Threads share it, as the words of other things, or it stands still, in one caller's hands: then it is plain
 -- memory beside its keys.
 --     laid g rest, code_back xs     a code in numbers, before these;  and the code again (read_from, first_code: with a stack of codes)
---     KeyRow, row_of h, key_of_row r     a key with what is noted beside it in numbers, so that a word is plain data;  and the key again
+--     KeyRow, as_row h, key_of_row r     a key with what is noted beside it in numbers, so that a word is plain data;  and the key again
 --     rows_of held, keys_of_rows rows, keys_of n rows    the same of each key;  and as keys of book n
 --     LinkSite                which link's word it is; and where it stands still what it holds, and its keys
 --     key_row_coded, link_site_coded     their codes
@@ -64,14 +64,14 @@ pub record KeyRow : Type 0 where
   pub label : ℕ
   pub note : List ℕ
 
-abbrev pub row_of : HeldKey Entry → KeyRow
-row_of h = record { kind = h.kind; key = h.key; own = h.own; label = h.label; note = laid h.note [] }
+abbrev pub as_row : HeldKey Entry → KeyRow
+as_row h = record { kind = h.kind; key = h.key; own = h.own; label = h.label; note = laid h.note [] }
 
 abbrev pub key_of_row : KeyRow → HeldKey Entry
 key_of_row r = record { kind = r.kind; key = r.key; own = r.own; label = r.label; note = code_back r.note }
 
 abbrev pub rows_of : List (HeldKey Entry) → List KeyRow
-rows_of held = map row_of held
+rows_of held = map as_row held
 
 abbrev pub keys_of_rows : List KeyRow → List (HeldKey Entry)
 keys_of_rows rows = map key_of_row rows
