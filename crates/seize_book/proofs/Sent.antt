@@ -20,7 +20,7 @@ use Rattle.seize_book.specs.Peeks.{keys_show, show_if, sight_if}
 use Rattle.seize_book.specs.Pairs.{Pair, all_covered, pair_number, pairs_in}
 use Rattle.seize_book.specs.Permits.{all_permitted, knows_permits, permit_if}
 use Rattle.seize_book.specs.Shared.{period, porter_has, porter_shares, row_has, rows_have, side}
-use Rattle.seize_book.specs.Tokens.{Gate, Name, all_but, all_lead, gate_gives, gate_leaves, gate_lends, gate_share, inside, is_placed, keys_own, knows, lent_pass, lies_if, note_if, notes_own, over, porter_owns, rights_own, rows, slot_labels, start, tickets, way_if}
+use Rattle.seize_book.specs.Tokens.{Gate, Name, all_but, all_lead, gate_gives, gate_leaves, gate_lends, gate_share, inside, is_placed, keys_own, knows, lent_pass, lies_if, note_if, notes_own, over, porter_owns, rights_own, rows, sized_pass, slot_labels, start, tickets, way_if}
 use Rattle.seize_book.specs.Begin.{book_owns}
 
 roster_keyless : (δ k : ℕ) (owns : List (List Entry)) → Keyless (roster entry_coded δ k owns)
@@ -101,7 +101,7 @@ lies_if_keyless false n s = tt
 
 inside_keyless : (n : Name) → Keyless (inside n)
 unfolding latest
-inside_keyless n = λ s. (rosters_keyless (rows n) s.0, (tt, (((over_keyless (ended_lives s.1), covered_keyless n.pairs (pairs_in (start n) s.1)), ((λ b. turned_keyless n.gate s.1 b), (leads_keyless n (after (start n) s.1).named, (filled_keyless n.table 0 (slot_labels n (length (after (start n) s.1).slots)), λ _. tt)))), (λ _. tt))))
+inside_keyless n = λ s. (rosters_keyless (rows n) s.0, (tt, (((over_keyless (ended_lives s.1), covered_keyless n.pairs (pairs_in (start n) s.1)), (((λ m. (tt, λ _. tt)), λ b. turned_keyless n.gate s.1 b), (leads_keyless n (after (start n) s.1).named, (filled_keyless n.table 0 (slot_labels n (length (after (start n) s.1).slots)), λ _. tt)))), (λ _. tt))))
 
 pub book_keyless : (n : Name) (seen : List Entry) → Keyless (book_owns n seen)
 unfolding at_least
@@ -143,6 +143,10 @@ module _ (n : Name) (seen : List Entry) where
 
   period_keyless : (μ : Lft) (δ : ℕ) → Keyless (period n seen μ δ)
   period_keyless μ δ = λ all. (row_keys_keyless δ 0 all, side_keyless μ all)
+
+pub sized_keyless : (n : Name) (κ : Lft) (p size : ℕ) (seen : List Entry) → Keyless (sized_pass n κ p size seen)
+unfolding at_least
+sized_keyless n κ p size seen = (tt, lent_keyless n κ p seen)
 
 -- and so may what a porter has, and what is shared of it
 pub porter_sent : (n : Name) (home : Bool) (seen : List Entry) → Keyless (porter_has n home seen)
