@@ -1,10 +1,11 @@
 -- All events of the list are within the greatest size that the book had. Assumes `Logic`.
---     within_more, within_push     of a greater size;  of one event more
+--     within_more, within_push, within_before     of a greater size;  of one event more, and of a beginning;  size_itself   each is within itself
 --     had_twice            that the book had a size can be had twice
 --     bound_push           an event within such a size is added
---     bound_tells          the list is within one;  bound_raised     the greatest is raised
+--     bound_tells          the list, and each beginning of it, is within one;  bound_raised     the greatest is raised
 --     fills_within         so what the law of quiet lists asks is had
-use Rattle.std.proofs.Common.{◌≡◌, ℕ, ◌≤◌, Bool, true, false, not, ◌&&◌, ◌||◌, nat_le, max, List, [], ◌∷◌, ◌++◌, refl, arith}
+use Rattle.std.proofs.Common.{◌≡◌, ℕ, ◌≤◌, Bool, true, false, not, ◌&&◌, ◌||◌, nat_le, max, List, [], ◌∷◌, ◌++◌, refl, sym, subst, arith}
+use mathlib.Core.List.{IsPrefix}
 use seplogic.Ra.Ura.{Ura}
 use base.Fml.{Fml, Share, ftrue}
 use base.Fraction.{full_share}
@@ -21,12 +22,12 @@ use Rattle.seize_machine.specs.Machine.History.{Moment, done_by}
 use Rattle.seize_machine.specs.Machine.Laws.{FillsWithin, fills}
 use Rattle.seize_machine.specs.Machine.Next.{next}
 use Rattle.seize_book.specs.Book.{moments}
-use Rattle.seize_book.specs.Bounds.{AllWithin, IsWithin, bound_at, bounded, had_size, is_within, sets_size, size_part, within_at}
+use Rattle.seize_book.specs.Bounds.{AllWithin, OneWithin, bound_at, bounded, had_size, is_within, sets_size, size_part, within_at}
 use Rattle.seize_book.specs.Entry.{Entry, Made, Used, timed_deed}
 
 -- ---- lists
 
-one_more : (m n : ℕ) → m ≤ n → (e : Entry) → IsWithin m e → IsWithin n e
+one_more : (m n : ℕ) → m ≤ n → (e : Entry) → OneWithin m e → OneWithin n e
 one_more m n le (Made d) is = omega (arith, le, is)
 one_more m n le (Used u) is = tt
 
@@ -34,9 +35,19 @@ pub within_more : (m n : ℕ) → m ≤ n → (log : List Entry) → AllWithin m
 within_more m n le [] all = tt
 within_more m n le (e ∷ log) all = (one_more m n le e all.0, within_more m n le log all.1)
 
-pub within_push : (m n : ℕ) → m ≤ n → (log : List Entry) (e : Entry) → AllWithin n log → IsWithin m e → AllWithin n (log ++ e ∷ [])
+pub within_push : (m n : ℕ) → m ≤ n → (log : List Entry) (e : Entry) → AllWithin n log → OneWithin m e → AllWithin n (log ++ e ∷ [])
 within_push m n le [] e all one = (one_more m n le e one, tt)
 within_push m n le (x ∷ log) e all one = (all.0, within_push m n le log e all.1 one)
+
+within_first : (m : ℕ) (seen more : List Entry) → AllWithin m (seen ++ more) → AllWithin m seen
+within_first m [] more all = tt
+within_first m (e ∷ seen) more all = (all.0, within_first m seen more all.1)
+
+pub within_before : (m : ℕ) (seen log : List Entry) → IsPrefix seen log → AllWithin m log → AllWithin m seen
+within_before m seen log grows all = within_first m seen grows.0 (subst (AllWithin m) (sym grows.1) all)
+
+pub size_itself : (m : ℕ) → m ≤ m
+size_itself m = omega arith
 
 le_true : (a b : ℕ) → a ≤ b → nat_le a b ≡ true
 le_true a b le = grind (arith, le)
@@ -78,18 +89,18 @@ module _ {M : Type 1} {𝓤 : Ura M} (𝓛 : Logic 𝓤) (γ : ℕ) where
   pub size_bounds : (m n : ℕ) (q : Share) → ⟦ size_part γ n q ⟧ ∗ ⟦ had_size γ m ⟧ ⊢ guard 𝓤 (m ≤ n) (⟦ size_part γ n q ⟧ ∗ ⟦ had_size γ m ⟧)
   size_bounds m n q = latest_bounds numbers 𝓛 q γ n m
 
-  pub bound_push : (m : ℕ) (log : List Entry) (e : Entry) → IsWithin m e → ⟦ bounded γ log ⟧ ∗ ⟦ had_size γ m ⟧ ⊢ ⟦ bounded γ (log ++ e ∷ []) ⟧
+  pub bound_push : (m : ℕ) (log : List Entry) (e : Entry) → OneWithin m e → ⟦ bounded γ log ⟧ ∗ ⟦ had_size γ m ⟧ ⊢ ⟦ bounded γ (log ++ e ∷ []) ⟧
   bound_push m log e one = let log' : List Entry = log ++ e ∷ [] in qed 𝓛 (‵ (bounded γ log) ∷ ‵ (had_size γ m) ∷ []) ∵ fpick ! (λ n. fsplit ! $ move ! (1 ∷ []) $ fpick ! (λ all. drop ! $
       -- [the greatest; the size]
       use2 𝓛 (given (m ≤ n) (‵ (size_part γ n quarter) ⊛ ‵ (had_size γ m))) (size_bounds m n quarter) $ learn ! (λ le. split ! $ keep ! (0 ∷ []) $
       nothing ! $ fpack ! (AllWithin n log') (λ _. ftrue) (within_push m n le log e all one) $ move ! (1 ∷ 0 ∷ []) $ fjoin ! $ fpack ! ℕ (bound_at γ log') n $ done !)))
 
-  pub bound_tells : (log : List Entry) → ⟦ bounded γ log ⟧ ⊢ ⟦ bounded γ log ⟧ ∗ ⟦ is_within γ log ⟧
-  bound_tells log = qed 𝓛 (‵ (bounded γ log) ∷ []) ∵ fpick ! (λ n. fsplit ! $ move ! (1 ∷ []) $ fpick ! (λ all. drop ! $
+  pub bound_tells : (log seen : List Entry) → IsPrefix seen log → ⟦ bounded γ log ⟧ ⊢ ⟦ bounded γ log ⟧ ∗ ⟦ is_within γ seen ⟧
+  bound_tells log seen grows = qed 𝓛 (‵ (bounded γ log) ∷ []) ∵ fpick ! (λ n. fsplit ! $ move ! (1 ∷ []) $ fpick ! (λ all. drop ! $
       use1 𝓛 (‵ (size_part γ n quarter) ⊛ ‵ (had_size γ n)) (latest_shows numbers 𝓛 quarter γ n n (numbers.same n)) $ split ! $
       -- [the greatest; that the book had it]
       nothing ! $ fpack ! (AllWithin n log) (λ _. ftrue) all $ move ! (1 ∷ 0 ∷ []) $ fjoin ! $ fpack ! ℕ (bound_at γ log) n $
-      move ! (1 ∷ []) $ nothing ! $ fpack ! (AllWithin n log) (λ _. ftrue) all $ move ! (1 ∷ 0 ∷ []) $ fjoin ! $ fpack ! ℕ (within_at γ log) n $ move ! (1 ∷ 0 ∷ []) $ done !))
+      move ! (1 ∷ []) $ nothing ! $ fpack ! (AllWithin n seen) (λ _. ftrue) (within_before n seen log grows all) $ move ! (1 ∷ 0 ∷ []) $ fjoin ! $ fpack ! ℕ (within_at γ seen) n $ move ! (1 ∷ 0 ∷ []) $ done !))
 
   -- with a part of the greatest
   pub within_most : (log : List Entry) (n : ℕ) (q : Share) → ⟦ size_part γ n q ⟧ ∗ ⟦ is_within γ log ⟧ ⊢ guard 𝓤 (AllWithin n log) ⟦ size_part γ n q ⟧

@@ -17,7 +17,7 @@ use types.Kit.{‵, raw, ◌⊛◌, given, ◌$◌, ◌∵◌, !, qed, by, move,
 use denote.Steps.{nothing}
 use Rattle.seize_book.specs.Ledger.{logs}
 use Rattle.seize_book.specs.Entry.{Entry, entry_coded}
-use Rattle.seize_book.specs.Bounds.{IsWithin, bounded, had_size}
+use Rattle.seize_book.specs.Bounds.{OneWithin, bounded, had_size}
 use Rattle.seize_book.specs.Tokens.{Gate, IsSole, all_but, gate_keeps, gate_gives, gate_leaves, gate_stands, one_out, gate_share}
 use Rattle.seize_book.proofs.Bounds.{bound_push}
 use Rattle.seize_book.proofs.Tickets.{all_once, comes_back, goes_out, none_back}
@@ -95,7 +95,7 @@ module _ {M : Type 1} {𝓤 : Ura M} (𝓛 : Logic 𝓤) where
   follows_so g (suc q) log seen log' more e = qed 𝓛 (‵ (gate_stands g log) ∷ ‵ (gate_gives g (suc q) seen) ∷ []) ∵ fpick ! (λ b. by ! (one_follows g q log seen log' b more))
 
   -- the event is within a size that the book had
-  pub follows : (g : Gate) (p size : ℕ) (log seen : List Entry) (e : Entry) → IsWithin size e → (IsSole p → log ≡ seen)
+  pub follows : (g : Gate) (p size : ℕ) (log seen : List Entry) (e : Entry) → OneWithin size e → (IsSole p → log ≡ seen)
       → ⟦ gate_keeps g log ⟧ ∗ ⟦ gate_gives g p seen ⟧ ∗ ⟦ had_size g.sizes size ⟧ ⊢ upd 𝓤 (⟦ gate_keeps g (log ++ e ∷ []) ⟧ ∗ ⟦ gate_gives g p (log ++ e ∷ []) ⟧)
   follows g p size log seen e within alone = let log' : List Entry = log ++ e ∷ [] in let Z : Pr = ⟦ gate_keeps g log' ⟧ ∗ ⟦ gate_gives g p log' ⟧ in
       qed 𝓛 (‵ (gate_keeps g log) ∷ ‵ (gate_gives g p seen) ∷ ‵ (had_size g.sizes size) ∷ []) ∵ fsplit ! $ move ! (0 ∷ 3 ∷ []) $ use2 𝓛 (‵ (bounded g.sizes log')) (bound_push 𝓛 g.sizes size log e within) $

@@ -26,6 +26,7 @@ pub mod Begins
 pub mod Books
 pub mod Bounds
 pub mod Sharing
+pub mod Sizing
 pub mod Tuples
 pub mod Private
 pub mod Saying

@@ -12,7 +12,7 @@ use Rattle.seize_machine.specs.Machine.State.{State, has, linked_values, are_dis
 use Rattle.seize_book.specs.Ledger.{HeldKey, reached, WithKinds, with_list, keys_made, Known}
 use Rattle.seize_book.specs.Entry.{Entry, entry_coded, maker}
 use Rattle.seize_book.specs.Book.{after, blocks, mine, passes, rules, kinds, slots}
-use Rattle.seize_book.specs.Bounds.{IsWithin, had_size}
+use Rattle.seize_book.specs.Bounds.{OneWithin, had_size}
 use Rattle.seize_book.specs.Fair.{Before, Fair, HasPlace, IsLabel, pass_key}
 use Rattle.seize_book.specs.Laws.{ended_lives}
 use Rattle.seize_book.specs.Pairs.{all_covered, pairs_by, pairs_in}
@@ -58,7 +58,7 @@ module _ {M : Type 1} {𝓤 : Ura M} (𝓛 : Logic 𝓤) (n : Name) where
   -- the event is fair with the pass and these keys
   abbrev pub MayMake : ℕ → ℕ → List Entry → List (HeldKey Entry) → (List Entry → Entry) → (List Entry → Type 0) → Type 0
   MayMake p size seen held ev Told =
-      (own log : List Entry) → Before n p seen held log → Told log → Fair n (pass_key p own ∷ held) log (ev log) × (maker (ev log) ≡ p) × IsWithin size (ev log)
+      (own log : List Entry) → Before n p seen held log → Told log → Fair n (pass_key p own ∷ held) log (ev log) × (maker (ev log) ≡ p) × OneWithin size (ev log)
 
   -- what its maker brings tells more of the list, beside what has ended; and it is traded
   abbrev pub Tells : ℕ → List Entry → List (HeldKey Entry) → (List Entry → Type 0) → Pr → Type 1
@@ -161,7 +161,7 @@ module _ {M : Type 1} {𝓤 : Ura M} (𝓛 : Logic 𝓤) (n : Name) where
 
       -- and the event is within the size
       abbrev Sizes : (List Entry → Type 0) → Type 0
-      Sizes So = (log : List Entry) → Before n p seen held log → So log → IsWithin size (ev log)
+      Sizes So = (log : List Entry) → Before n p seen held log → So log → OneWithin size (ev log)
 
       trades_all : Sizes Told → Names Told → Permits p seen held ev Told X → Trades p seen held ev Told X Y → (log : List Entry) → Known (rules st) all seen log → ToldAll log → ⟦ beside n log ⟧ ∗ (⟦ brings ⟧ ∗ ⟦ its_ways ⟧ ∗ X) ⊢ upd 𝓤 (⟦ beside n (now log) ⟧ ∗ (⟦ gives (now log) ⟧ ∗ ⟦ its_ways ⟧ ∗ Y log))
       trades_all sizes names permits trades log known told = let Z : Pr = ⟦ beside n (now log) ⟧ ∗ (⟦ gives (now log) ⟧ ∗ ⟦ its_ways ⟧ ∗ Y log) in

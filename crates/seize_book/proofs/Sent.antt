@@ -2,7 +2,7 @@
 use Rattle.std.proofs.Common.{ℕ, zero, suc, Bool, true, false, ◌==◌, List, [], ◌∷◌, length}
 use base.Growing.{latest, at_least}
 use base.Stored.{Gv}
-use base.Fml.{Lft, Share}
+use base.Fml.{Lft, Share, fsep}
 use base.SetCodes.{coded_share}
 use base.Shift.{Keyless}
 use types.Keyed.{entry_keyless, entries_keyless, token}
@@ -11,6 +11,7 @@ use Rattle.seize_table.specs.Filled.{all_from}
 use Rattle.seize_book.specs.Ledger.{HeldKey, halved, roster, rosters, first_row, rest}
 use Rattle.seize_book.specs.Entry.{Entry, entry_coded}
 use Rattle.seize_book.specs.Book.{after, blocks}
+use Rattle.seize_book.specs.Bounds.{had_size, sets_size, size_lent}
 use Rattle.seize_content.specs.Stages.{lent}
 use Rattle.seize_content.proofs.Sends.{ticket_sent, token_sent, lent_sent, sight_sent}
 use Rattle.seize_machine.specs.Machine.State.{State}
@@ -149,15 +150,32 @@ unfolding at_least
 sized_keyless n κ p size seen = (tt, lent_keyless n κ p seen)
 
 -- and so may what a porter has, and what is shared of it
-pub porter_sent : (n : Name) (home : Bool) (seen : List Entry) → Keyless (porter_has n home seen)
+porter_sent : (n : Name) (home : Bool) (seen : List Entry) → Keyless (porter_has n home seen)
 unfolding at_least
 porter_sent n true seen = porter_keyless n true 0 seen
 porter_sent n false seen = λ t. (period_keyless n seen _ t.1.1, (entry_keyless (halved coded_share) _ 0 _, (tt, (knows_keyless n, tt))))
 
-pub porter_shown : (n : Name) (home : Bool) (seen : List Entry) (κ : Lft) → Keyless (porter_shares n home seen κ)
+porter_shown : (n : Name) (home : Bool) (seen : List Entry) (κ : Lft) → Keyless (porter_shares n home seen κ)
 unfolding at_least
 porter_shown n true seen κ = tt
 porter_shown n false seen κ = λ t. ((λ νs. chain-Keyless νs κ _), (period_keyless n seen _ t.1.1, (knows_keyless n, tt)))
+
+pub porter_all_sent : (n : Name) (size : ℕ) (home : Bool) (seen : List Entry) → Keyless (fsep (had_size n.gate.sizes size) (porter_has n home seen))
+unfolding at_least
+porter_all_sent n size home seen = (tt, porter_sent n home seen)
+
+pub porter_all_shown : (n : Name) (size : ℕ) (home : Bool) (seen : List Entry) (κ : Lft) → Keyless (fsep (had_size n.gate.sizes size) (porter_shares n home seen κ))
+unfolding at_least
+porter_all_shown n size home seen κ = (tt, porter_shown n home seen κ)
+
+-- and the right to set the size
+pub sizes_sent : (γ m : ℕ) → Keyless (sets_size γ m)
+unfolding latest
+sizes_sent γ m = tt
+
+pub sizes_shown : (γ m : ℕ) (κ : Lft) → Keyless (size_lent γ m κ)
+unfolding latest
+sizes_shown γ m κ = λ q. tt
 
 note_keyless : (b : Bool) (v : ℕ) (g : Gv) → Keyless (note_if b v g)
 note_keyless true v g = token_sent (cell_of v) g

@@ -1,8 +1,9 @@
 -- The bound of all batch sizes in the list: the greatest size that the book ever had, which only grows.
---     IsWithin m e, AllWithin m log     the event's size is at most m;  so is that of each event of the list
+--     OneWithin m e, AllWithin m log     the event's size is at most m;  so is that of each event of the list
 --     had_size γ m         the greatest size is at least m, for good
---     bounded γ log        what the list's invariant keeps: the greatest size, which nobody raises without it, and that all events are within
---     sets_size γ m        the rest of the right to raise it, with which one knows that it is m;  size_lent   what a `&` lends of that
+--     bounded γ log        what the list's invariant keeps: a part of the right to raise the greatest size, and that all are within it
+--     sets_size γ m        the rest of that right: m is the greatest;  first_sizes    as a book begins, with this size
+--     size_lent γ m κ      what a `&` lends of that: while κ lasts, m is the greatest
 --     is_within γ log      all events of the list are within a size that the book had, for good
 use Rattle.std.specs.Prelude.{ℕ, ◌≤◌, List, [], ◌∷◌}
 use base.Fml.{Lft, Share, Fml, fsep, fex, fshr_bor}
@@ -11,13 +12,13 @@ use base.Share.{quarter, three_quarters}
 use Rattle.seize_book.specs.Entry.{Entry, Made, Used}
 use Rattle.seize_book.specs.Ledger.{fact}
 
-abbrev pub IsWithin : ℕ → Entry → Type 0
-IsWithin m (Made d) = d.size ≤ m
-IsWithin m (Used u) = Unit {0}
+abbrev pub OneWithin : ℕ → Entry → Type 0
+OneWithin m (Made d) = d.size ≤ m
+OneWithin m (Used u) = Unit {0}
 
 abbrev pub AllWithin : ℕ → List Entry → Type 0
 AllWithin m [] = Unit {0}
-AllWithin m (e ∷ log) = IsWithin m e × AllWithin m log
+AllWithin m (e ∷ log) = OneWithin m e × AllWithin m log
 
 abbrev pub had_size : ℕ → ℕ → Fml
 had_size γ m = at_least numbers γ m
@@ -33,6 +34,10 @@ size_part γ m q = latest numbers q γ m
 
 abbrev pub sets_size : ℕ → ℕ → Fml
 sets_size γ m = size_part γ m three_quarters
+
+-- as a book begins, with this size
+abbrev pub first_sizes : ℕ → ℕ → Fml
+first_sizes γ m = fsep (had_size γ m) (sets_size γ m)
 
 abbrev pub size_lent : ℕ → ℕ → Lft → Fml
 size_lent γ m κ = fshr_bor κ (size_part γ m)

@@ -7,7 +7,7 @@
 --     GrewByOthers porter pass  the pass has seen a list that goes on from what the porter has seen, and nothing was made with the first
 --                               pass meanwhile
 --     Resizes porter porter' size   it is the same, but that the batch size is this
---     raised sizes size         the greatest size, or this one, if it is greater
+--     most_raised sizes size         the greatest size, or this one, if it is greater
 --     LeavesHome porter porter'     it is the same, but not at home
 --     WasWhole home seen seen'  it is seen still, if the porter was at home: then that was the whole list, and nobody could add
 --     ComesHome porter porter'  the porter is at home: it owns the copy of the whole list (`gate_leaves` in `Tokens`), and nothing was made
@@ -68,8 +68,8 @@ abbrev pub Resizes : Porter → Porter → ℕ → Type 0
 Resizes porter porter' size =
     (porter'.name ≡ porter.name) × (porter'.size ≡ size) × (porter'.seen ≡ porter.seen) × (porter'.home ≡ porter.home)
 
-abbrev pub raised : Sizes → ℕ → Sizes
-raised sizes size = record sizes { most = max sizes.most size }
+abbrev pub most_raised : Sizes → ℕ → Sizes
+most_raised sizes size = record sizes { most = max sizes.most size }
 
 abbrev pub WasWhole : Bool → List Entry → List Entry → Type 0
 WasWhole home seen seen' = home ≡ true → seen' ≡ seen

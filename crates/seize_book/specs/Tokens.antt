@@ -105,9 +105,10 @@ abbrev pub name_coded : Coded Name
 name_coded =
     code_by (List ℕ × (List (Option ℕ) × (List ℕ × List ℕ)))
     (coded× (coded_list coded_ℕ) (coded× (coded_list (coded_option coded_ℕ)) (coded× (coded_list coded_ℕ) (coded_list coded_ℕ))))
-    (λ n.
-    (n.number ∷ n.log ∷ n.family ∷ n.slots ∷ n.gate.copy ∷ n.gate.tickets ∷ n.permits ∷ n.pairs ∷ n.gate.sizes ∷ rows n,
-    (n.links, (n.store, n.table))))
+    (λ n. (
+      n.number ∷ n.log ∷ n.family ∷ n.slots ∷ n.gate.copy ∷ n.gate.tickets ∷ n.permits ∷ n.pairs ∷ n.gate.sizes ∷ rows n,
+      (n.links, (n.store, n.table)),
+    ))
     (λ t. record {
       number = nth t.0 0;
       log = nth t.0 1;

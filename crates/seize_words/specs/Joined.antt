@@ -18,7 +18,7 @@ use Rattle.seize_words.specs.Reserved.{HasNextSlot}
 use Rattle.seize_book.specs.Others.{rest_of}
 use Rattle.seize_book.specs.Slots.{IsKeyOfBook, slot_number}
 use Rattle.seize_book.specs.Tokens.{Name}
-use Rattle.seize_book.specs.Porters.{IsFirstPorter, raised}
+use Rattle.seize_book.specs.Porters.{IsFirstPorter, most_raised}
 use Rattle.seize_words.specs.Totals.{made_of, slots_seen}
 use Rattle.seize_words.specs.declared.activation.Activation.{Activation}
 use Rattle.seize_book.specs.declared.book.numbers_key.NumbersKey.{NumbersKey}
@@ -41,7 +41,7 @@ pub record HasJustBegun (book : Seen) (numbers : NumbersKey) (next : NextSlot) (
   pub next_is : HasNextSlot numbers next
 
 abbrev pub with_size : {T : Type 0} → Words T → ℕ → Words T
-with_size words n = record words { size = n; sizes = raised words.sizes n }
+with_size words n = record words { size = n; sizes = most_raised words.sizes n }
 
 abbrev pub OpensWords : {T : Type 0} → Words T → Porter → NumbersKey → NextSlot → ℕ → ℕ → Type 0
 OpensWords words porter numbers next many size =

@@ -60,7 +60,7 @@ impl Porter {
     ghost use mathlib.Core.List.{IsPrefix};
     ghost use Rattle.seize_book.specs.Lending.{ArePairsPermitted, IsPermitForAll};
     ghost use Rattle.seize_book.specs.Passes.{LooksOn};
-    ghost use Rattle.seize_book.specs.Porters.{ComesHome, GrewByOthers, HadStay, LeavesHome, LendsPass, MayStay, OpensAgain, Resizes, Shuts, raised};
+    ghost use Rattle.seize_book.specs.Porters.{ComesHome, GrewByOthers, HadStay, LeavesHome, LendsPass, MayStay, OpensAgain, Resizes, Shuts, most_raised};
     ghost use Rattle.seize_book.specs.Tokens.{IsSole};
 
     /// A new pass, which has seen what the porter has, and perhaps more; a kept [`Seen`] tells a new pass what an earlier one saw
@@ -98,10 +98,11 @@ impl Porter {
     }
 
     /// Sets the batch size of the passes that it lends from then on. A size of 0 serves as 1: a batch to which a value was just added has
-    /// one. No pass that it lent before lasts. The greatest size that the book ever had is this one then, if it is greater. Contracts alone see the size, so a caller keeps the number for its calls.
+    /// one. No pass that it lent before lasts. The greatest size that the book ever had is this one then, if it is greater. Contracts alone
+    /// see the size, so a caller keeps the number for its calls.
     pub fn set_size(&mut self, _size: usize, sizes: &mut Sizes)
         requires { sizes.old.name ≡ self.old.name }
-        ensures { Resizes self.old self.new _size × (sizes.new ≡ raised sizes.old _size) }
+        ensures { Resizes self.old self.new _size × (sizes.new ≡ most_raised sizes.old _size) }
     {}
 
     /// Leaves home: callers who share it by `&` are lent passes from then on.

@@ -67,7 +67,8 @@ impl Seen {
         links: usize,
         size: usize,
     ) -> (Seen, Pass<'static>, Keys, Sizes)
-        ensures { IsFirst result.0 result.1 × (result.1.size ≡ size) × HasFirstSize result.0 result.3 size × BeginsWithKeys result.0 result.2 links K.store K.table
+        ensures { IsFirst result.0 result.1 × (result.1.size ≡ size) × HasFirstSize result.0 result.3 size
+            × BeginsWithKeys result.0 result.2 links K.store K.table
             × (result.0.name.family ≡ unopened.family) × (result.0.name.permits ≡ K.permits) × (result.0.name.pairs ≡ K.pairs) }
     {
         let FutureBook { marker: _ } = unopened;

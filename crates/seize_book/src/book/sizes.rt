@@ -25,14 +25,11 @@ impl Model for Sizes {
 
 impl Sizes {
     ghost use Rattle.seize_book.specs.Bounds.{AllWithin};
-    ghost use Rattle.seize_book.specs.Passes.{LooksOn};
 
-    /// Looks at the list with a pass, and adds nothing. Each event that the pass has seen then has at most the greatest size.
-    ///
-    /// It does nothing when the program runs.
+    /// Each event that the pass has seen has at most the greatest size. It does nothing: its contract is the law.
     pub fn bound(&self, pass: &mut Pass)
         requires { pass.old.name ≡ self.now.name }
-        ensures { LooksOn pass.old pass.new × AllWithin self.now.most pass.new.seen }
+        ensures { (pass.new ≡ pass.old) × AllWithin self.now.most pass.new.seen }
     {}
 }
 

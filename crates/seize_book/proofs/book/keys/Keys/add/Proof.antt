@@ -1,5 +1,6 @@
 -- `note` adds one event, with no step.
 use Rattle.seize_book.proofs.Kit.{join, Lfts, NamedLft, named_lft, ℕ, List, [], ◌∷◌, refl, sym, proved, named, Val, vptr, vunit, SProp, emp, Fml, ftrue, fsep, flft, ‵, raw, ◌⊛◌, some, given, later, await, ◌$◌, ◌∵◌, !, qed, by, move, keep, split, fsplit, fsplit3, fjoin, fjoin3, pick, learn, use2, rewrite, feq_i, unit_lit, of_opd, returns, enter, alloc_all, pass_all, free_all, look_at, sets, fact, fact_i, heard, tables, owns, types_at, plain, mut_vals, mut_Tells, nothing, opens, closes, Stays, stay_ref, walk_of, Goes-ref}
+use Rattle.std.proofs.Common.{◌≤◌, arith}
 use mir.Syntax.{a_type, dcons, dnil}
 use mir.MapTy.{inst_fn}
 use denote.Param.{bounded}
