@@ -1,6 +1,6 @@
 //! From a collector that threads share to one in one caller's hands, and back.
 ghost use Rattle.std.specs.Prelude.{◌≡◌, ℕ, IfErr, IfOk, None, Some, box_value, get_or, length};
-ghost use Rattle.seize.specs.Collectors.{its_book, its_id, its_size, seen_by};
+ghost use Rattle.seize.specs.Collectors.{its_book, its_id, its_most, its_size, seen_by};
 ghost use Rattle.seize_book.specs.Tokens.{IsSole};
 ghost use Rattle.seize_calls.specs.Slots.{IsPassFor};
 ghost use Rattle.seize.specs.Alones.{AreNumbersFor};
@@ -86,7 +86,7 @@ pub(super) fn shared<T: Drop, R: Reclaim<T>>(
     requires shared { AreShared words.links }
     requires places { (s : ℕ) (place : Place T) → get_or places.items s None ≡ Some place → MayLay (words_book words) place }
     ensures same { (its_book result ≡ words_book words) × (its_size result ≡ words.size) × (its_id result ≡ id)
-        × (seen_by result ≡ pass.entry.seen) }
+        × (seen_by result ≡ pass.entry.seen) × (its_most result ≡ words.sizes.most) }
 {
     let mut porter = Porter::again(pass);
     let mut places = places;
