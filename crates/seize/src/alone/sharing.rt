@@ -45,7 +45,7 @@ impl<T: Drop, R: Reclaim<T>> Collector<T, R> {
     pub fn alone(self) -> Result<Alone<T, R>, Collector<T, R>>
         ensures made { IfOk result (λ alone. (alone.book ≡ its_book self) × (alone.size ≡ its_size self) × (alone.id ≡ its_id self)
             × (alone.links ≡ its_links self) × (alone.state.size ≡ alone.size) × (length alone.state.links ≡ its_links self)
-            × GoesOnTo alone.book (seen_by self) alone.seen × AddsNothing self alone.seen) }
+            × GoesOnTo alone.book (seen_by self) alone.seen × AddsNothing self alone.seen × (alone.most ≡ its_most self)) }
         ensures back { IfErr result (FindsInUse self) }
     {
         let (mut words, mut pass, mut numbers, ender, id, alloc) = self.into_parts();
@@ -112,7 +112,7 @@ impl<T: Drop, R: Reclaim<T>> Alone<T, R> {
     /// It takes no memory, makes no event and waits for nobody.
     pub fn share(self) -> Collector<T, R>
         ensures same { (its_book result ≡ self.book) × (its_size result ≡ self.size) × (its_id result ≡ self.id)
-            × (its_links result ≡ self.links) × (seen_by result ≡ self.seen) }
+            × (its_links result ≡ self.links) × (seen_by result ≡ self.seen) × (its_most result ≡ self.most) }
     {
         let Alone {
             mut words,
