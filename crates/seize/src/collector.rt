@@ -402,16 +402,16 @@ impl<T: Drop, R: Reclaim<T>> Collector<T, R> {
     /// collector may be shared again.
     ///
     /// Slots that were forgotten leave first: those of registrations and guards that `forget` spent, and of registrations that ended with
-    /// the answer false. Then each slot attempts its batch, and the numbers go back. The slots go in order of their numbers. Then what the
-    /// reclaimer put meanwhile goes to it, oldest first; what it puts with these joins the end, until none is left. The watch is told of
-    /// each value, in order, just before it goes to the reclaimer.
+    /// the answer false. Then each of these slots attempts its batch, in order of their numbers. What slots left as they ended is attempted
+    /// next, by the slot of a free number, and all numbers go back. Then what the reclaimer put meanwhile goes to it, oldest first; what it
+    /// puts with these joins the end, until none is left. The watch is told of each value, in order, just before it goes to the reclaimer.
     ///
     /// The answer is false, then and later, as tests show, where a registration or a guard is lost: a type that holds it was given to
     /// `mem::forget`. What is in that slot's batch stays. If the slot has a guard, what waits for it or is attempted later stays as well.
     ///
-    /// It takes no memory and waits for nobody, but for what watch and reclaimer do. Each slot takes the lock of its shelf and makes two
-    /// atomic swaps and an attempt of its batch, which looks at the heads of all slots. One that was forgotten with a guard makes one swap
-    /// more.
+    /// It takes no memory and waits for nobody, but for what watch and reclaimer do. It takes the lock of the shelf of each number in use.
+    /// Each slot that was forgotten makes two atomic swaps and an attempt of its batch, which looks at the heads of all slots; one that was
+    /// forgotten with a guard makes one swap more. So does one slot for what was left.
     pub fn reclaim_all<W: Watch<T>>(&mut self, watch: &mut W) -> bool
         ensures reclaims { ReclaimsAll self.old self.new result }
         ensures same_reference { watch.exit.ghost_name ≡ watch.entry.ghost_name }
