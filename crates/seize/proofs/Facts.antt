@@ -1,10 +1,11 @@
 -- What other crates may build on, with `Contents` for values that hold blocks. All else in `proofs` is no interface, and may change. Assumes
 -- `Logic`.
-use Rattle.std.proofs.Common.{◌≡◌, ℕ, Bool, true, false, Option, Some, refl, sym, ◌∙◌, subst}
+use Rattle.std.proofs.Common.{◌≡◌, ◌⊎◌, ℕ, Bool, true, false, Option, Some, inl, inr, refl, sym, ◌∙◌, subst}
 use base.Growing.{prefix_trans}
 use base.Stored.{Coded}
 use mathlib.Core.List.{IsPrefix}
-use Rattle.seize_machine.specs.Machine.History.{Reclaimed, Retired}
+use Rattle.seize_machine.specs.Machine.History.{Reclaimed, Retired, end_of}
+use Rattle.seize_machine.specs.Machine.Laws.{IsBatched, IsRested, is_quiet}
 use Rattle.seize_machine.proofs.Facts.{some_is}
 use Rattle.seize_machine.specs.Machine.State.{are_distinct, linked_values}
 use Rattle.seize_book.specs.Book.{IsLegalList, moments}
@@ -17,7 +18,7 @@ use Rattle.seize_words.proofs.Facts.{same_content, told_later, told_once}
 use Rattle.seize_parts.specs.Blocks.{HasContent}
 use Rattle.seize.specs.Links.{Shows, shared_value}
 use Rattle.seize.specs.Collectors.{its_book, seen_by}
-use Rattle.seize_parts.specs.Laws.{moments_seen}
+use Rattle.seize_parts.specs.Laws.{LawsHold, WaitsBelow, moments_seen, opening_of}
 use Rattle.seize_parts.specs.Makes.{IsOfKind}
 use Rattle.seize.specs.Reclaims.{Learns, ReclaimsAll, moments_kept, moments_of}
 use Rattle.seize.specs.declared.collector.Collector.{Collector}
@@ -53,6 +54,17 @@ pub found_content : {T R : Type 0} (collector : Collector T R) (coded : Coded T)
 found_content collector coded held shared v x shows is has =
     content_once coded v (shared_value shared) x
     (subst (λ (w : ℕ). IsLentAs w (coded.code (shared_value shared))) (some_is shows.1.1.0 v (sym shows.1.1.1 ∙ (shows.0 ∙ is))) shows.1.1.2) has
+
+-- At rest a retired value is reclaimed, or waits below the bound of the greatest batch size.
+pub rests_below : (most : ℕ) (pass : Pass) → LawsHold most pass → is_quiet (end_of (opening_of pass) (moments_seen pass)) ≡ true → (v q : ℕ) → Retired (moments_seen pass) v q
+    → ((c : ℕ) × Reclaimed (moments_seen pass) v c) ⊎ WaitsBelow most (end_of (opening_of pass) (moments_seen pass)) v
+rests_below most pass laws rest v q retired = go (laws.0.quiet rest v q retired)
+  where
+    go : ((c : ℕ) × Reclaimed (moments_seen pass) v c) ⊎ IsBatched (end_of (opening_of pass) (moments_seen pass)) v (moments_seen pass) ⊎ IsRested (end_of (opening_of pass) (moments_seen pass)) v (moments_seen pass)
+        → ((c : ℕ) × Reclaimed (moments_seen pass) v c) ⊎ WaitsBelow most (end_of (opening_of pass) (moments_seen pass)) v
+    go (inl gone) = inl gone
+    go (inr (inl batched)) = inr (inl (batched.0, batched.1, batched.2 most laws.1))
+    go (inr (inr rested)) = inr (inr (rested.0, rested.1 most laws.1))
 
 -- What was retired as a pass had seen is retired in what was kept of it later.
 pub kept_retired : (known : Seen) (pass : Pass) (v q : ℕ) → known.name ≡ pass.name → IsPrefix pass.seen known.seen → Retired (moments_seen pass) v q → Retired (moments_kept known) v q

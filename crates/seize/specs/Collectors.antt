@@ -2,6 +2,7 @@
 --     its_book c        the list of events of the collector, by its name
 --     its_store c       the store where its blocks lie;  its_words c   its words
 --     its_size c, its_links c, its_id c     its batch size, how many links it has, and its id
+--     its_most c        the greatest batch size that it ever had: the bound of all sizes in its list
 --     collector_text size     what `{:?}` writes of a collector of this batch size
 --     seen_by c         what it has seen of its list, as its porter knows: a pass that it gives goes on from there
 --     IsPassOf c pass   it is a pass of the collector, of its batch size
@@ -39,6 +40,9 @@ its_store collector = (its_book collector).store
 
 abbrev pub its_size : {T R : Type 0} → Collector T R → ℕ
 its_size collector = collector.words.size
+
+abbrev pub its_most : {T R : Type 0} → Collector T R → ℕ
+its_most collector = collector.words.sizes.most
 
 abbrev pub its_links : {T R : Type 0} → Collector T R → ℕ
 its_links collector = length (its_book collector).links

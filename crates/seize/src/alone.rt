@@ -58,6 +58,7 @@ impl<T: Drop + Codes, R: Reclaim<T>> Model for Alone<T, R> {
     ghost view = { λ a. record {
       book = words_book a.words;
       size = a.words.size;
+      most = a.words.sizes.most;
       id = a.id;
       links = length (words_book a.words).links;
       state = a.hands.state;

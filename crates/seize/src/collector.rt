@@ -56,7 +56,7 @@ pub struct Collector<T: Drop, R: Reclaim<T> = Boxed> {
 impl<T: Drop> Collector<T> {
     ghost use Rattle.std.specs.Prelude.{◌+◌, max as greater, IfOk, IfErr};
     ghost use Rattle.std.specs.Int.{IsNextPowerOfTwo};
-    ghost use Rattle.seize.specs.Collectors.{BeginsEmpty, IsRefusalFor, its_id, its_size};
+    ghost use Rattle.seize.specs.Collectors.{BeginsEmpty, IsRefusalFor, its_id, its_most, its_size};
 
     /// A collector with no slot and this many empty links. Its batch size is `max(32, processors)`, rounded up to a power of two. It asks
     /// for the memory of its links, of the entries of its table of slots for so many processors, and of a box for its reclaimer.
@@ -72,7 +72,7 @@ impl<T: Drop> Collector<T> {
         links: usize,
     ) -> Result<Collector<T>, Refusal>
         ensures made { IfOk result (λ made. IsNextPowerOfTwo (greater 32 processors) (its_size made) × BeginsEmpty made links
-            × (its_id made ≡ ids.old) × (ids.new ≡ ids.old + 1)) }
+            × (its_most made ≡ its_size made) × (its_id made ≡ ids.old) × (ids.new ≡ ids.old + 1)) }
         ensures refused { IfErr result (λ refusal. (ids.new ≡ ids.old) × IsRefusalFor processors ids.old refusal) }
     {
         Collector::with_reclaimer(alloc, ids, processors, links, Boxed)
@@ -84,7 +84,7 @@ impl<T: Drop, R: Reclaim<T>> Collector<T, R> {
     ghost use Rattle.std.specs.Int.{IsNextPowerOfTwo};
     ghost use Rattle.seize_table.specs.declared.refusal.Refusal.TheVariants.{NoMemory as no_memory};
     ghost use Rattle.seize_parts.specs.Blocks.{content};
-    ghost use Rattle.seize.specs.Collectors.{BeginsEmpty, IsBlockOf, IsNewPassOf, IsPassOf, IsRefusalFor, its_book, its_id, its_links, its_size, its_words, seen_by};
+    ghost use Rattle.seize.specs.Collectors.{BeginsEmpty, IsBlockOf, IsNewPassOf, IsPassOf, IsRefusalFor, its_book, its_id, its_links, its_most, its_size, its_words, seen_by};
     ghost use Rattle.seize.specs.Registrations.{registered_in, registered_slot};
     ghost use Rattle.seize_book.specs.Porters.{Shuts};
     ghost use Rattle.seize_calls.specs.Slots.{IsPassFor};
@@ -106,7 +106,7 @@ impl<T: Drop, R: Reclaim<T>> Collector<T, R> {
         reclaimer: R,
     ) -> Result<Collector<T, R>, Refusal>
         ensures made { IfOk result (λ made. IsNextPowerOfTwo (greater 32 processors) (its_size made) × BeginsEmpty made links
-            × (its_id made ≡ ids.old) × (ids.new ≡ ids.old + 1)) }
+            × (its_most made ≡ its_size made) × (its_id made ≡ ids.old) × (ids.new ≡ ids.old + 1)) }
         ensures refused { IfErr result (λ refusal. (ids.new ≡ ids.old) × IsRefusalFor processors ids.old refusal) }
     {
         let (id, size) = ids.begin(processors)?;
@@ -125,7 +125,7 @@ impl<T: Drop, R: Reclaim<T>> Collector<T, R> {
         reclaimer: R,
     ) -> Result<Collector<T, R>, Refusal>
         requires { processors ≤ 2 ^ 63 }
-        ensures made { IfOk result (λ made. (its_size made ≡ size) × BeginsEmpty made links × (its_id made ≡ id)) }
+        ensures made { IfOk result (λ made. (its_size made ≡ size) × (its_most made ≡ size) × BeginsEmpty made links × (its_id made ≡ id)) }
         ensures refused { IfErr result (λ refusal. refusal ≡ no_memory) }
     {
         let (words, permits, pairs, mut porter, key, next) = Words::new(
@@ -151,10 +151,11 @@ impl<T: Drop, R: Reclaim<T>> Collector<T, R> {
         })
     }
 
-    /// With batches of this many values, not rounded. 0 serves as 1.
+    /// With batches of this many values, not rounded. 0 serves as 1. The greatest size that the collector ever had, which bounds batches at
+    /// rest (`laws`), is this one then, if it is greater.
     pub fn batch_size(self, n: usize) -> Collector<T, R>
         ensures same { (its_book result ≡ its_book self) × (seen_by result ≡ seen_by self) × (its_id result ≡ its_id self) }
-        ensures size { its_size result ≡ n }
+        ensures size { (its_size result ≡ n) × (its_most result ≡ greater (its_most self) n) }
     {
         let Collector {
             mut words,
@@ -186,7 +187,8 @@ impl<T: Drop, R: Reclaim<T>> Collector<T, R> {
         u64,
         Global,
     )
-        ensures words { (words_book result.0 ≡ its_book self) × (result.0.size ≡ its_size self) × AreShared result.0.links }
+        ensures words { (words_book result.0 ≡ its_book self) × (result.0.size ≡ its_size self) × AreShared result.0.links
+            × (result.0.sizes.most ≡ its_most self) }
         ensures pass { IsPassFor result.0 result.1 × Shuts self.porter result.1 }
         ensures numbers { AreNumbers result.2 × IsLockFor result.0 result.2 }
         ensures ender { IsEnderOf result.0 (box_value result.3) }
@@ -284,7 +286,7 @@ impl<T: Drop, R: Reclaim<T>> Collector<T, R> {
 impl<T: Drop, R: Reclaim<T>> Collector<T, R> {
     ghost use Rattle.std.specs.Prelude.{IfErr, IfOk};
     ghost use Rattle.seize_table.specs.declared.refusal.Refusal.TheVariants.{NoMemory as no_memory};
-    ghost use Rattle.seize.specs.Collectors.{IsPassOf, seen_by};
+    ghost use Rattle.seize.specs.Collectors.{IsPassOf, its_most, seen_by};
     ghost use Rattle.seize_parts.specs.Laws.{HaveContents, LawsHold};
     ghost use Rattle.seize_parts.specs.Rules.{KeepsSince};
     ghost use Rattle.seize_parts.specs.Makes.{MakesNone, TakesAndEnters};
@@ -323,7 +325,9 @@ impl<T: Drop, R: Reclaim<T>> Collector<T, R> {
 
     /// The pass looks at the list of events. Every law of the machine holds of what it has seen then, which goes on from what it had seen.
     /// So each value, whoever retired it, is reclaimed there at most once, and only after each slot that was active at its retirement has
-    /// left or refreshed. And each name in it that was ever in a link, or retired, says a content of type `T`.
+    /// left or refreshed. Each of its events has at most the greatest batch size that the collector ever had, so batches at rest are below
+    /// that size, or below the number of slots (`Quiet`). And each name in it that was ever in a link, or retired, says a content of type
+    /// `T`.
     ///
     /// Each exchange that was won since the collector was last shared, by whoever, meets the rule of its links (`Puts::keeps`). A call by
     /// `&mut` ends the sharing: `learn`, `reclaim_all`, `alone`. What one caller did with an `Alone` is not among these exchanges, and the
@@ -333,12 +337,13 @@ impl<T: Drop, R: Reclaim<T>> Collector<T, R> {
     pub fn laws(&self, pass: &mut Pass)
         requires pass { IsPassOf self.now pass.old }
         ensures none { MakesNone pass.old pass.new }
-        ensures laws { LawsHold pass.new }
+        ensures laws { LawsHold (its_most self.now) pass.new }
         ensures contents { HaveContents T.row.coded.code pass.new }
         ensures rule { KeepsSince T.row.coded.code R.keeps (seen_by self.now) pass.new }
     {
         machine::laws();
         self.ender.look(&self.porter, pass);
+        self.words.sizes.bound(pass);
     }
 }
 

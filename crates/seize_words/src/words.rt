@@ -13,8 +13,8 @@ use crate::glimpse::{Found, Glimpse};
 use crate::link::{Expected, Expects, Links, MaybeKey};
 use crate::slots::{NextSlot, Reservation, Slots};
 use seize_book::book::{
-    BookKeys, Condition, FutureBook, NumbersKey, Pass, Permit, Permits, Porter, Seen, SlotKey,
-    Storage,
+    BookKeys, Condition, FutureBook, NumbersKey, Pass, Permit, Permits, Porter, Seen, Sizes,
+    SlotKey, Storage,
 };
 use seize_store::Store;
 use seize_table::Refusal;
@@ -34,8 +34,11 @@ pub struct Words<T> {
     pub blocks: Blocks<T>,
     /// The batch size, in values. A size of 0 serves as 1.
     pub size: usize,
+    /// The greatest batch size that there was.
+    pub sizes: Sizes,
     ghost linked: { links_name links ≡ blocks_book blocks },
     ghost slotted: { slots_book slots ≡ blocks_book blocks },
+    ghost sized: { sizes.name ≡ blocks_book blocks },
 }
 
 impl<T: Drop> Words<T> {
@@ -139,7 +142,7 @@ impl<T: Drop> Words<T> {
         requires keys { HasKeys blocks.book keys links blocks.book.name.store blocks.book.name.table }
         ensures made { IfOk result (λ made. (made.0.blocks.book ≡ blocks.book) × (made.1 ≡ keys.numbers) × HasNextSlot made.1 made.2
             × AreShared made.0.links) }
-        ensures size { IfOk result (λ made. made.0.size ≡ size) }
+        ensures size { IfOk result (λ made. (made.0.size ≡ size) × (made.0.sizes ≡ keys.sizes)) }
         ensures refused { IfErr result (λ e. e ≡ NoMemory) }
     {
         let BookKeys {
@@ -147,6 +150,7 @@ impl<T: Drop> Words<T> {
             total,
             next,
             links: left,
+            sizes,
         } = keys;
         let book = &blocks.book;
         let links = Links::new(alloc, links, left, book.again())?;
@@ -157,6 +161,7 @@ impl<T: Drop> Words<T> {
             slots,
             blocks,
             size,
+            sizes,
         };
         Ok((words, numbers, next))
     }
@@ -167,7 +172,7 @@ impl<T: Drop> Words<T> {
         ensures words { self.new ≡ with_size self.old size }
         ensures porter { Resizes porter.old porter.new size }
     {
-        porter.set_size(size);
+        porter.set_size(size, &mut self.sizes);
         self.size = size;
     }
 

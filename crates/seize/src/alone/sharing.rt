@@ -1,6 +1,6 @@
 //! From a collector that threads share to one in one caller's hands, and back.
 ghost use Rattle.std.specs.Prelude.{◌≡◌, ℕ, IfErr, IfOk, None, Some, box_value, get_or, length};
-ghost use Rattle.seize.specs.Collectors.{its_book, its_id, its_size, seen_by};
+ghost use Rattle.seize.specs.Collectors.{its_book, its_id, its_most, its_size, seen_by};
 ghost use Rattle.seize_book.specs.Tokens.{IsSole};
 ghost use Rattle.seize_calls.specs.Slots.{IsPassFor};
 ghost use Rattle.seize.specs.Alones.{AreNumbersFor};
@@ -45,7 +45,7 @@ impl<T: Drop, R: Reclaim<T>> Collector<T, R> {
     pub fn alone(self) -> Result<Alone<T, R>, Collector<T, R>>
         ensures made { IfOk result (λ alone. (alone.book ≡ its_book self) × (alone.size ≡ its_size self) × (alone.id ≡ its_id self)
             × (alone.links ≡ its_links self) × (alone.state.size ≡ alone.size) × (length alone.state.links ≡ its_links self)
-            × GoesOnTo alone.book (seen_by self) alone.seen × AddsNothing self alone.seen) }
+            × GoesOnTo alone.book (seen_by self) alone.seen × AddsNothing self alone.seen × (alone.most ≡ its_most self)) }
         ensures back { IfErr result (FindsInUse self) }
     {
         let (mut words, mut pass, mut numbers, ender, id, alloc) = self.into_parts();
@@ -86,7 +86,7 @@ pub(super) fn shared<T: Drop, R: Reclaim<T>>(
     requires shared { AreShared words.links }
     requires places { (s : ℕ) (place : Place T) → get_or places.items s None ≡ Some place → MayLay (words_book words) place }
     ensures same { (its_book result ≡ words_book words) × (its_size result ≡ words.size) × (its_id result ≡ id)
-        × (seen_by result ≡ pass.entry.seen) }
+        × (seen_by result ≡ pass.entry.seen) × (its_most result ≡ words.sizes.most) }
 {
     let mut porter = Porter::again(pass);
     let mut places = places;
@@ -112,7 +112,7 @@ impl<T: Drop, R: Reclaim<T>> Alone<T, R> {
     /// It takes no memory, makes no event and waits for nobody.
     pub fn share(self) -> Collector<T, R>
         ensures same { (its_book result ≡ self.book) × (its_size result ≡ self.size) × (its_id result ≡ self.id)
-            × (its_links result ≡ self.links) × (seen_by result ≡ self.seen) }
+            × (its_links result ≡ self.links) × (seen_by result ≡ self.seen) × (its_most result ≡ self.most) }
     {
         let Alone {
             mut words,

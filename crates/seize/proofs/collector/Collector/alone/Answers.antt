@@ -81,6 +81,7 @@ returns-clause-made g c =
       first.2 ∙ ap (λ (n : Name). length n.links) (comes.same.0 ∙ sym parts.pass.0.0 ∙ parts.words.0),
       subst (λ (t : Name × List Entry). GoesOnTo t.0 (seen_by self) t.1) (λ j. (own j, (sym c.rest.ensures.pass j).seen)) (goes_then shut.goes_on (subst (λ (n : Name). GoesOnTo n had.seen pass.seen) shut.book.0 comes.goes_on)),
       subst (λ (t : Name × List Entry). mine (start t.0) 0 t.1 ≡ mine (start t.0) 0 (seen_by self)) (λ j. (self.lends.0 j, sym (ap (λ (p : Pass). p.seen) c.rest.ensures.pass ∙ comes.still) j)) shut.none_made,
+      parts.words.3,
     )
 
 pub returns-then-not-all-clause-back : goal.returns-then-not-all-clause-back
@@ -89,7 +90,7 @@ returns-then-not-all-clause-back g c =
     let own : self.porter.name ≡ name = self.lends.0 in let had_name : had.name ≡ name = shut.book.0 ∙ own in let same = c.shared.ensures.same in
     let seen : seen_by c.shared.result ≡ had.seen = same.3 ∙ comes.still in let book : c.come_to_rest-found.new.pass.name ≡ its_book c.shared.result = comes.same.0 ∙ had_name ∙ sym (same.0 ∙ parts.words.0) in
     record {
-      same = (same.0 ∙ parts.words.0, same.1 ∙ parts.words.1, same.2 ∙ parts.id);
+      same = (same.0 ∙ parts.words.0, same.1 ∙ parts.words.1, same.2 ∙ parts.id, same.4 ∙ parts.words.3);
       goes_on = subst (λ (t : Name × List Entry). GoesOnTo t.0 (seen_by self) t.1) (λ j. (own j, sym seen j)) shut.goes_on;
       nothing = subst (λ (t : Name × List Entry). mine (start t.0) 0 t.1 ≡ mine (start t.0) 0 (seen_by self)) (λ j. (own j, sym seen j)) shut.none_made;
       in_use = λ unused. comes.kept c.if-not-all.true (λ s. (λ j. (slot_at (after (start (book j)) (sym same.3 j)) s).used) ∙ unused s);

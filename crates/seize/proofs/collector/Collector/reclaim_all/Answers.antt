@@ -27,7 +27,7 @@ returns-clause-reclaims g c =
     let back_name : back.name ≡ name = stay.same.0 ∙ lent_name in let back_seen : back.seen ≡ seen' = sym (leave.1 ∙ stay.again.1) in
     let added = sweeps.adds stay.shut.alone in
     record {
-      same = (refl, refl, refl);
+      same = (refl, refl, refl, refl);
       at_call = lent.seen;
       goes_on = subst (λ (n : Name). GoesOnTo n self.porter.seen lent.seen) own_name stay.shut.goes_on;
       nothing = subst (λ (n : Name). mine (start n) 0 lent.seen ≡ mine (start n) 0 self.porter.seen) own_name stay.shut.none_made;
