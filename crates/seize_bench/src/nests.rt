@@ -1,13 +1,13 @@
 //! A work whose reclaimer puts further values.
 ghost use Rattle.std.specs.Prelude.{◌≡◌, All, IfOk};
 ghost use Rattle.seize.specs.Blocks.{Belongs};
-ghost use Rattle.seize.specs.Collectors.{BelongsTo, IsPassOf, its_store};
+ghost use Rattle.seize.specs.Collectors.{BelongsTo, IsPassFor, its_store};
 ghost use Rattle.seize.specs.Registrations.{registered_in};
 ghost use Rattle.seize_uses.specs.Nests.{nest_owners};
 
 use crate::clock::{RUNS, Samples, Span};
 use crate::guards::{RETIRED, refused};
-use seize::{Collector, IdSource, Owned, Pass, Refusal, Registration, Unlinked};
+use seize::{Collector, IdSource, Owned, Pass, Refusal, Registration};
 use seize_uses::nest::{Nest, PutInside};
 use std::alloc::{AllocError, Global};
 use std::io;
@@ -53,12 +53,12 @@ fn retire_pairs<W: Wait>(
     rt: &W,
     pass: &mut Pass,
 ) -> Result<(), Refusal>
-    requires { IsPassOf (registered_in holder.now) pass.old }
-    ensures { IsPassOf (registered_in holder.now) pass.new }
+    requires { IsPassFor (registered_in holder.now) pass.old }
+    ensures { IsPassFor (registered_in holder.now) pass.new }
 {
     for number in 0..RETIRED {
         let block = pair(holder, alloc, number)?;
-        let block = Unlinked::from_owned(block, holder.collector());
+        let block = holder.collector().unlinked(block);
         holder.retire(rt, pass, block);
     }
     Ok(())
@@ -71,8 +71,8 @@ fn retire_many<W: Wait>(
     rt: &W,
     pass: &mut Pass,
 ) -> Result<u64, Refusal>
-    requires { IsPassOf (registered_in holder.now) pass.old }
-    ensures { IsPassOf (registered_in holder.now) pass.new }
+    requires { IsPassFor (registered_in holder.now) pass.old }
+    ensures { IsPassFor (registered_in holder.now) pass.new }
 {
     for _ in 0..TURNS {
         let guard = holder.enter(pass)?;
@@ -91,8 +91,8 @@ fn runs<R: Clock + CpuClock + Wait>(
     pass: &mut Pass,
     samples: &mut Samples,
 ) -> io::Result<()>
-    requires { IsPassOf (registered_in holder.now) pass.old }
-    ensures { IsPassOf (registered_in holder.now) pass.new }
+    requires { IsPassFor (registered_in holder.now) pass.old }
+    ensures { IsPassFor (registered_in holder.now) pass.new }
 {
     for _ in 0..RUNS {
         let span = Span::begun(rt)?;

@@ -182,14 +182,13 @@ impl<T: Drop> Slot<T> {
         &mut self,
         words: &Words<T>,
         value: T,
-        pass: &mut Pass,
     ) -> Result<(ValueKey, Bare<Header, Part, T>), (Refusal, T)>
-        requires of { IsSlotOf words.now self.old × IsPassFor words.now pass.old }
-        ensures same { KeepsCalls self.old self.new × (pass.new ≡ pass.old) }
+        requires { IsSlotOf words.now self.old }
+        ensures same { KeepsCalls self.old self.new }
         ensures made { IfOk result (λ made. IsBlockIn words.now.blocks value made.0 made.1) }
         ensures refused { IfErr result (λ refused. (refused.0 ≡ NoMemory) × (refused.1 ≡ value)) }
     {
-        words.blocks.add_from(&mut self.holder.spots, value, pass)
+        words.blocks.add_from(&mut self.holder.spots, value)
     }
 
     /// Looks at the list with no event: the pass knows of the slot then what its own key says. It does nothing else.

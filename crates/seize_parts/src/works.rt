@@ -69,26 +69,25 @@ pub struct Adding<'a, T: Drop> {
     pub value: T,
 }
 
-impl<'a, 'p, T: Drop> LockWork<
+impl<'a, T: Drop> LockWork<
     Reservation<T>,
-    Pass<'p>,
+    (),
     Result<(ValueKey, Bare<Header, Part, T>), (Refusal, T)>,
 > for Adding<'a, T> {
-    ghost may = { λ work r pass. IsReservationOf work.words.now r × IsPassFor work.words.now pass };
+    ghost may = { λ work r _. IsReservationOf work.words.now r };
 
-    ghost gives = { λ work r r' pass pass' result. (pass' ≡ pass)
-        × IfOk result (λ made. IsBlockIn work.words.now.blocks work.value made.0 made.1)
+    ghost gives = { λ work _ _ _ _ result. IfOk result (λ made. IsBlockIn work.words.now.blocks work.value made.0 made.1)
         × IfErr result (λ refused. (refused.0 ≡ no_memory) × (refused.1 ≡ work.value)) };
 
     #[inline(always)]
     fn work(
         self,
         r: &mut Reservation<T>,
-        pass: &mut Pass<'p>,
+        _with: &mut (),
     ) -> Result<(ValueKey, Bare<Header, Part, T>), (Refusal, T)> {
         let Adding { words, value } = self;
         r.slot.seen().agree(&words.blocks.book);
-        r.slot.add(words, value, pass)
+        r.slot.add(words, value)
     }
 }
 

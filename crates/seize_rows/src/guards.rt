@@ -1,6 +1,6 @@
 //! Guards of several slots, on one thread: whose leaving or refreshing ends what was retired, and how exchanges end.
 ghost use Rattle.std.specs.Prelude.{◌≡◌, ◌<◌, IfOk, IfSome};
-ghost use Rattle.seize.specs.Collectors.{IsBlockOf, IsPassOf, its_links};
+ghost use Rattle.seize.specs.Collectors.{IsBlockOf, IsPassFor, its_links, its_words};
 ghost use Rattle.seize.specs.Guards.{guard_collector};
 
 use seize::{Collector, Guard, IdSource, LocalGuard, Owned, Pass, Refusal};
@@ -15,7 +15,7 @@ pub(crate) type Counting<'a> = Collector<Counted<'a>>;
 
 // A collector with one link, and batches of this many values.
 pub(crate) fn collector<'a>(alloc: Global, size: usize) -> Result<Counting<'a>, Refusal>
-    ensures { IfOk result (λ made. 0 < its_links made) }
+    ensures { IfOk result (λ made. 0 < its_links (its_words made)) }
 {
     let made: Counting<'a> = Collector::new(alloc, &mut IdSource::new(), 1, 1)?;
     Ok(made.batch_size(size))
@@ -23,7 +23,7 @@ pub(crate) fn collector<'a>(alloc: Global, size: usize) -> Result<Counting<'a>, 
 
 // A block with a value that counts its end. Where the block is refused the value ends at once.
 fn block<'a>(collector: &Counting<'a>, ends: &'a AtomicU64) -> Option<Owned<Counted<'a>>>
-    ensures { IfSome result (λ owned. IsBlockOf collector.now owned) }
+    ensures { IfSome result (λ owned. IsBlockOf (its_words collector.now) owned) }
 {
     collector.owned(Counted { ends }).ok()
 }
@@ -36,8 +36,8 @@ pub(crate) fn retire<'a>(
     ends: &'a AtomicU64,
     pass: &mut Pass,
 )
-    requires of { IsPassOf (guard_collector guard.now) pass.old × (0 < its_links (guard_collector guard.now)) }
-    ensures { IsPassOf (guard_collector guard.now) pass.new }
+    requires of { IsPassFor (guard_collector guard.now) pass.old × (0 < its_links (guard_collector guard.now)) }
+    ensures { IsPassFor (guard_collector guard.now) pass.new }
 {
     for _ in 0..count {
         let new = block(guard.collector(), ends);
@@ -49,7 +49,7 @@ pub(crate) fn retire<'a>(
 
 // Three guards of one slot: what another slot retires waits until the last of them leaves.
 fn leave_one_by_one<'a>(rt: &(impl Wait + Abort), collector: &Counting<'a>, ends: &'a AtomicU64)
-    requires { 0 < its_links collector.now }
+    requires { 0 < its_links (its_words collector.now) }
 {
     let mut pass = collector.pass();
     let reader = collector.register(rt, &mut pass).expect(rt, "memory");
@@ -83,7 +83,7 @@ fn the_last_of_three_guards_ends_what_waits(rt: HostRuntime) -> Result<(), Fail>
 
 // The same, but the guard that stays last refreshes: only then the values end, and what it refreshes beside others ends nothing.
 fn refresh_at_last<'a>(rt: &(impl Wait + Abort), collector: &Counting<'a>, ends: &'a AtomicU64)
-    requires { 0 < its_links collector.now }
+    requires { 0 < its_links (its_words collector.now) }
 {
     let mut pass = collector.pass();
     let reader = collector.register(rt, &mut pass).expect(rt, "memory");
@@ -113,7 +113,7 @@ fn a_lone_guard_ends_what_waits_by_a_refresh(rt: HostRuntime) -> Result<(), Fail
 
 // A flush attempts a batch that is not full: with one active slot one value is enough, and it ends when the slot leaves.
 fn flush_one<'a>(rt: &(impl Wait + Abort), collector: &Counting<'a>, ends: &'a AtomicU64)
-    requires { 0 < its_links collector.now }
+    requires { 0 < its_links (its_words collector.now) }
 {
     let mut pass = collector.pass();
     let writer = collector.register(rt, &mut pass).expect(rt, "memory");
@@ -136,8 +136,8 @@ fn a_flush_attempts_a_short_batch(rt: HostRuntime) -> Result<(), Fail> {
 
 // Registers so many times, one after the other: each time the number is 0, and goes back.
 fn register_often(rt: &(impl Wait + Abort), collector: &Collector<u64>, times: u64, pass: &mut Pass)
-    requires { IsPassOf collector.now pass.old }
-    ensures { IsPassOf collector.now pass.new }
+    requires { IsPassFor (its_words collector.now) pass.old }
+    ensures { IsPassFor (its_words collector.now) pass.new }
 {
     for _ in 0..times {
         let registration = collector.register(rt, pass).expect(rt, "memory");
@@ -153,7 +153,8 @@ fn numbers_are_used_again(rt: HostRuntime) -> Result<(), Fail> {
     let mut pass = collector.pass();
     register_often(&rt, &collector, 1000, &mut pass);
     let first = collector.register(&rt, &mut pass).expect(&rt, "memory");
-    first.enter(&mut pass).expect(&rt, "a guard").forget();
+    let guard = first.enter(&mut pass).expect(&rt, "a guard");
+    guard.forget(&mut pass);
     assert!(rt; !first.end(&rt, &mut pass));
     let second = collector.register(&rt, &mut pass).expect(&rt, "memory");
     assert_eq!(rt; second.thread_id(), 1);
@@ -170,8 +171,8 @@ fn exchange_twice(
     rt: &impl Wait,
     pass: &mut Pass,
 ) -> Option<(u64, u64, bool)>
-    requires of { IsPassOf (guard_collector guard.now) pass.old × (0 < its_links (guard_collector guard.now)) }
-    ensures { IsPassOf (guard_collector guard.now) pass.new }
+    requires of { IsPassFor (guard_collector guard.now) pass.old × (0 < its_links (guard_collector guard.now)) }
+    ensures { IsPassFor (guard_collector guard.now) pass.new }
 {
     let core = guard.core();
     let new = core.collector().owned(3).ok()?;
@@ -221,8 +222,8 @@ fn an_exchange_is_lost_and_then_won(rt: HostRuntime) -> Result<(), Fail> {
 
 // Puts a block into the link, and retires what came out.
 fn fill(guard: &LocalGuard<'_, '_, u64>, rt: &impl Wait, link: usize, pass: &mut Pass)
-    requires of { IsPassOf (guard_collector guard.now) pass.old × (link < its_links (guard_collector guard.now)) }
-    ensures { IsPassOf (guard_collector guard.now) pass.new }
+    requires of { IsPassFor (guard_collector guard.now) pass.old × (link < its_links (guard_collector guard.now)) }
+    ensures { IsPassFor (guard_collector guard.now) pass.new }
 {
     let block = guard.owned(7).ok();
     if let Some(old) = guard.swap(link, block, pass) {
@@ -232,8 +233,8 @@ fn fill(guard: &LocalGuard<'_, '_, u64>, rt: &impl Wait, link: usize, pass: &mut
 
 // Whether two reads of link 0 find the same block, and whether a read of link 1 finds that one too.
 fn same_block(guard: &LocalGuard<'_, '_, u64>, pass: &mut Pass) -> Option<(bool, bool)>
-    requires of { IsPassOf (guard_collector guard.now) pass.old × (1 < its_links (guard_collector guard.now)) }
-    ensures { IsPassOf (guard_collector guard.now) pass.new }
+    requires of { IsPassFor (guard_collector guard.now) pass.old × (1 < its_links (guard_collector guard.now)) }
+    ensures { IsPassFor (guard_collector guard.now) pass.new }
 {
     let first = guard.protect(0, pass)?;
     let again = guard.protect(0, pass)?;

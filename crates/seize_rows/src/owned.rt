@@ -4,7 +4,7 @@ ghost use Rattle.seize.specs.Guards.{owned_collector};
 
 use crate::guards::collector as linked;
 use crate::worked::retire_elsewhere;
-use seize::{Collector, Guard, IdSource, OwnedGuard, Refusal, Unlinked};
+use seize::{Collector, Guard, IdSource, OwnedGuard, Refusal};
 use seize_test_kit::values::{Counted, ended};
 use std::alloc::Global;
 use std::sync::Wait;
@@ -53,7 +53,7 @@ fn retire<'c, 'a>(
     let Ok(owned) = collector.owned(Counted { ends }) else {
         return false;
     };
-    guard.defer_retire(rt, &mut pass, Unlinked::from_owned(owned, collector));
+    guard.defer_retire(rt, &mut pass, collector.unlinked(owned));
     guard.flush(rt, &mut pass);
     true
 }

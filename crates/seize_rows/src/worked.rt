@@ -1,12 +1,12 @@
 //! Worked rows: calls of one or two slots in an order that is written down, which values end at which of them, and in which order.
 ghost use Rattle.std.specs.Prelude.{◌≡◌, ◌<◌};
-ghost use Rattle.seize.specs.Collectors.{IsPassOf, its_links};
+ghost use Rattle.seize.specs.Collectors.{IsPassFor, its_links, its_words};
 ghost use Rattle.seize.specs.Guards.{guard_collector};
 
 use crate::guards::{Counting, collector, retire};
 use crate::meeting;
 use crate::owned::{Handed, leave_elsewhere};
-use seize::{Collector, Guard, IdSource, LocalGuard, Pass, Unlinked};
+use seize::{Collector, Guard, IdSource, LocalGuard, Pass};
 use seize_test_kit::telling::{Telling, defer, defer_alone, telling};
 use seize_test_kit::values::{Counted, Digit, ended};
 use std::process::Abort;
@@ -18,7 +18,7 @@ use std::thread::Threads;
 
 // A slot enters, retires five values and leaves. It says its number.
 fn retire_five<'a>(rt: &impl Wait, collector: &Counting<'a>, ends: &'a AtomicU64) -> Option<usize>
-    requires { 0 < its_links collector.now }
+    requires { 0 < its_links (its_words collector.now) }
 {
     let mut pass = collector.pass();
     let registration = collector.register(rt, &mut pass).ok()?;
@@ -37,12 +37,12 @@ pub(crate) fn retire_elsewhere<'a, R: Threads + Wait + Sync>(
     collector: &Counting<'a>,
     ends: &'a AtomicU64,
 ) -> Option<usize>
-    requires { 0 < its_links collector.now }
+    requires { 0 < its_links (its_words collector.now) }
 {
     let (number, ()) = thread::join(
         rt,
         move || -> Option<usize>
-            requires { 0 < its_links collector.now }
+            requires { 0 < its_links (its_words collector.now) }
         { retire_five(rt, collector, ends) },
         || {},
     );
@@ -55,7 +55,7 @@ fn leave_thrice<'a, R: Threads + Wait + Sync + Abort>(
     collector: &Counting<'a>,
     ends: &'a AtomicU64,
 )
-    requires { 0 < its_links collector.now }
+    requires { 0 < its_links (its_words collector.now) }
 {
     let mut pass = collector.pass();
     let registration = collector.register(rt, &mut pass).expect(rt, "memory");
@@ -90,8 +90,8 @@ fn refresh_and_leave<'a>(
     ends: &'a AtomicU64,
     pass: &mut Pass,
 ) -> u64
-    requires { IsPassOf (guard_collector guard) pass.old }
-    ensures { IsPassOf (guard_collector guard.entry) pass.new }
+    requires { IsPassFor (guard_collector guard) pass.old }
+    ensures { IsPassFor (guard_collector guard.entry) pass.new }
 {
     let mut guard = guard;
     guard.refresh(rt, pass);
@@ -106,7 +106,7 @@ fn refresh_thrice<'a, R: Threads + Wait + Sync + Abort>(
     collector: &Counting<'a>,
     ends: &'a AtomicU64,
 )
-    requires { 0 < its_links collector.now }
+    requires { 0 < its_links (its_words collector.now) }
 {
     let mut pass = collector.pass();
     let registration = collector.register(rt, &mut pass).expect(rt, "memory");
@@ -169,8 +169,8 @@ fn lose<'a>(
     told: &'a AtomicU64,
     pass: &mut Pass,
 ) -> Option<[Option<u64>; 3]>
-    requires of { IsPassOf (guard_collector guard.now) pass.old × (0 < its_links (guard_collector guard.now)) }
-    ensures { IsPassOf (guard_collector guard.now) pass.new }
+    requires of { IsPassFor (guard_collector guard.now) pass.old × (0 < its_links (guard_collector guard.now)) }
+    ensures { IsPassFor (guard_collector guard.now) pass.new }
 {
     let two = guard.owned(Digit { digit: 2, told }).ok()?;
     let three = guard.owned(Digit { digit: 3, told }).ok()?;
@@ -195,7 +195,7 @@ fn lose<'a>(
 
 // The guard puts 1 into the link and does so.
 fn lose_once<'a>(rt: &(impl Wait + Abort), collector: &Telling<'a>, told: &'a AtomicU64)
-    requires { 0 < its_links collector.now }
+    requires { 0 < its_links (its_words collector.now) }
 {
     let mut pass = collector.pass();
     let registration = collector.register(rt, &mut pass).expect(rt, "memory");
@@ -226,8 +226,8 @@ fn an_exchange_is_lost_to_a_swap(rt: HostRuntime) -> Result<(), Fail> {
 
 // Another pass meets this one. It says what the guard reads by the other one then.
 fn read_by_another(guard: &LocalGuard<'_, '_, u64>, pass: &mut Pass) -> Option<u64>
-    requires of { IsPassOf (guard_collector guard.now) pass.old × (0 < its_links (guard_collector guard.now)) }
-    ensures { IsPassOf (guard_collector guard.now) pass.new }
+    requires of { IsPassFor (guard_collector guard.now) pass.old × (0 < its_links (guard_collector guard.now)) }
+    ensures { IsPassFor (guard_collector guard.now) pass.new }
 {
     let mut other = guard.collector().pass();
     pass.meet(&mut other);
@@ -236,7 +236,7 @@ fn read_by_another(guard: &LocalGuard<'_, '_, u64>, pass: &mut Pass) -> Option<u
 
 // Puts 1 and then 2 into the link by one pass, and reads it by that, and by another one that meets it.
 fn read_by_two(rt: &(impl Wait + Abort), collector: &Collector<u64>)
-    requires { 0 < its_links collector.now }
+    requires { 0 < its_links (its_words collector.now) }
 {
     let mut pass = collector.pass();
     let registration = collector.register(rt, &mut pass).expect(rt, "memory");
@@ -289,13 +289,13 @@ fn flush_each<'a>(
     count: &'a AtomicU64,
     pass: &mut Pass,
 )
-    requires { IsPassOf (guard_collector guard.now) pass.old }
-    ensures { IsPassOf (guard_collector guard.now) pass.new }
+    requires { IsPassFor (guard_collector guard.now) pass.old }
+    ensures { IsPassFor (guard_collector guard.now) pass.new }
 {
     for before in 0..MANY {
         let number = before.wrapping_add(1);
         if let Ok(owned) = guard.owned(InTurn { number, count }) {
-            guard.defer_retire(rt, pass, Unlinked::from_owned(owned, guard.collector()));
+            guard.defer_retire(rt, pass, guard.collector().unlinked(owned));
         }
         guard.flush(rt, pass);
     }

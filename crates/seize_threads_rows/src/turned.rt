@@ -1,6 +1,6 @@
 //! Two threads that take turns: what one of them has found does not end while its guard stands, though the other has retired it.
 ghost use Rattle.std.specs.Prelude.{◌≡◌, ◌<◌, IfOk};
-ghost use Rattle.seize.specs.Collectors.{IsPassOf, its_links};
+ghost use Rattle.seize.specs.Collectors.{IsPassFor, its_links, its_words};
 ghost use Rattle.seize.specs.Guards.{guard_collector};
 ghost use Rattle.seize.specs.Registrations.{registered_in};
 
@@ -52,7 +52,7 @@ struct Wrote {
 
 // A collector with one link, and batches of four values.
 fn collector<'a>(alloc: Global) -> Result<Collector<Marked<'a>>, Refusal>
-    ensures { IfOk result (λ made. 0 < its_links made) }
+    ensures { IfOk result (λ made. 0 < its_links (its_words made)) }
 {
     let made: Collector<Marked<'a>> = Collector::new(alloc, &mut IdSource::new(), 1, 1)?;
     Ok(made.batch_size(4))
@@ -65,8 +65,8 @@ fn find<'a>(
     marks: &'a [AtomicU64],
     pass: &mut Pass,
 ) -> Saw
-    requires of { IsPassOf (guard_collector guard.now) pass.old × (0 < its_links (guard_collector guard.now)) }
-    ensures { IsPassOf (guard_collector guard.now) pass.new }
+    requires of { IsPassFor (guard_collector guard.now) pass.old × (0 < its_links (guard_collector guard.now)) }
+    ensures { IsPassFor (guard_collector guard.now) pass.new }
 {
     let found = guard.protect(0, pass);
     let first = found.as_ref().map(|shared| shared.value);
@@ -88,8 +88,8 @@ fn stay<'a>(
     marks: &'a [AtomicU64],
     pass: &mut Pass,
 ) -> Result<Saw, Refusal>
-    requires of { IsPassOf (registered_in registration.now) pass.old × (0 < its_links (registered_in registration.now)) }
-    ensures { IsPassOf (registered_in registration.now) pass.new }
+    requires of { IsPassFor (registered_in registration.now) pass.old × (0 < its_links (registered_in registration.now)) }
+    ensures { IsPassFor (registered_in registration.now) pass.new }
 {
     wait_for(sign, PUT);
     let guard = registration.enter(pass)?;
@@ -107,7 +107,7 @@ fn read<'a>(
     sign: &AtomicU64,
     marks: &'a [AtomicU64],
 ) -> Result<Saw, Refusal>
-    requires { 0 < its_links collector.now }
+    requires { 0 < its_links (its_words collector.now) }
 {
     let mut pass = collector.pass();
     let registration = collector.register(rt, &mut pass)?;
@@ -125,8 +125,8 @@ fn replace<'a>(
     marks: &'a [AtomicU64],
     pass: &mut Pass,
 ) -> Result<u64, Refusal>
-    requires of { IsPassOf (registered_in registration.now) pass.old × (0 < its_links (registered_in registration.now)) }
-    ensures { IsPassOf (registered_in registration.now) pass.new }
+    requires of { IsPassFor (registered_in registration.now) pass.old × (0 < its_links (registered_in registration.now)) }
+    ensures { IsPassFor (registered_in registration.now) pass.new }
 {
     let mut retired = turn(registration, 0, Marked { value: 0, marks }, rt, pass)?.retired;
     set(sign);
@@ -146,7 +146,7 @@ fn write<'a>(
     sign: &AtomicU64,
     marks: &'a [AtomicU64],
 ) -> Result<Wrote, Refusal>
-    requires { 0 < its_links collector.now }
+    requires { 0 < its_links (its_words collector.now) }
 {
     let mut pass = collector.pass();
     let registration = collector.register(rt, &mut pass)?;
@@ -169,15 +169,15 @@ fn two<'a, R: Threads + Wait + Sync>(
     sign: &AtomicU64,
     marks: &'a [AtomicU64],
 ) -> Result<(Saw, Wrote), Refusal>
-    requires { 0 < its_links collector.now }
+    requires { 0 < its_links (its_words collector.now) }
 {
     let (saw, wrote) = thread::join(
         rt,
         move || -> Result<Saw, Refusal>
-            requires { 0 < its_links collector.now }
+            requires { 0 < its_links (its_words collector.now) }
         { read(rt, collector, sign, marks) },
         move || -> Result<Wrote, Refusal>
-            requires { 0 < its_links collector.now }
+            requires { 0 < its_links (its_words collector.now) }
         { write(rt, collector, sign, marks) },
     );
     Ok((saw?, wrote?))

@@ -1,6 +1,6 @@
 //! Threads that all read one block, and exchange it at once: one of them wins.
 ghost use Rattle.std.specs.Prelude.{◌≡◌, ◌<◌};
-ghost use Rattle.seize.specs.Collectors.{IsPassOf, its_links};
+ghost use Rattle.seize.specs.Collectors.{IsPassFor, its_links, its_words};
 ghost use Rattle.seize.specs.Guards.{guard_collector};
 ghost use Rattle.seize.specs.Registrations.{registered_in};
 
@@ -30,8 +30,8 @@ fn exchange<'a>(
     come: &AtomicU64,
     pass: &mut Pass,
 ) -> Tried
-    requires of { IsPassOf (guard_collector guard.now) pass.old × (0 < its_links (guard_collector guard.now)) }
-    ensures { IsPassOf (guard_collector guard.now) pass.new }
+    requires of { IsPassFor (guard_collector guard.now) pass.old × (0 < its_links (guard_collector guard.now)) }
+    ensures { IsPassFor (guard_collector guard.now) pass.new }
 {
     let next = round.wrapping_add(1);
     let found = guard.protect(0, pass);
@@ -65,8 +65,8 @@ fn play<'a>(
     come: &AtomicU64,
     pass: &mut Pass,
 ) -> Result<Tried, Refusal>
-    requires of { IsPassOf (registered_in registration.now) pass.old × (0 < its_links (registered_in registration.now)) }
-    ensures { IsPassOf (registered_in registration.now) pass.new }
+    requires of { IsPassFor (registered_in registration.now) pass.old × (0 < its_links (registered_in registration.now)) }
+    ensures { IsPassFor (registered_in registration.now) pass.new }
 {
     let guard = registration.enter(pass)?;
     let tried = exchange(rt, &guard, round, mark, come, pass);
@@ -88,8 +88,8 @@ fn play_all<'a>(
     marks: &'a [AtomicU64],
     pass: &mut Pass,
 ) -> Result<Tried, Refusal>
-    requires of { IsPassOf (registered_in registration.now) pass.old × (0 < its_links (registered_in registration.now)) }
-    ensures { IsPassOf (registered_in registration.now) pass.new }
+    requires of { IsPassFor (registered_in registration.now) pass.old × (0 < its_links (registered_in registration.now)) }
+    ensures { IsPassFor (registered_in registration.now) pass.new }
 {
     let mut all = Tried::none();
     for round in 0..ROUNDS {
@@ -111,7 +111,7 @@ fn work<'a>(
     come: &AtomicU64,
     marks: &'a [AtomicU64],
 ) -> Result<Tried, Refusal>
-    requires { 0 < its_links collector.now }
+    requires { 0 < its_links (its_words collector.now) }
 {
     let mut pass = collector.pass();
     let registration = collector.register(rt, &mut pass)?;
@@ -128,16 +128,16 @@ fn two<'a, R: Threads + Wait + Sync>(
     come: &AtomicU64,
     marks: &'a [AtomicU64],
 ) -> Result<Tried, Refusal>
-    requires { 0 < its_links collector.now }
+    requires { 0 < its_links (its_words collector.now) }
 {
     let second = first.wrapping_add(ROUNDS);
     let (one, other) = thread::join(
         rt,
         move || -> Result<Tried, Refusal>
-            requires { 0 < its_links collector.now }
+            requires { 0 < its_links (its_words collector.now) }
         { work(rt, collector, first, come, marks) },
         move || -> Result<Tried, Refusal>
-            requires { 0 < its_links collector.now }
+            requires { 0 < its_links (its_words collector.now) }
         { work(rt, collector, second, come, marks) },
     );
     Ok(one?.and(other?))
@@ -150,15 +150,15 @@ fn four<'a, R: Threads + Wait + Sync>(
     come: &AtomicU64,
     marks: &'a [AtomicU64],
 ) -> Result<Tried, Refusal>
-    requires { 0 < its_links collector.now }
+    requires { 0 < its_links (its_words collector.now) }
 {
     let (one, other) = thread::join(
         rt,
         move || -> Result<Tried, Refusal>
-            requires { 0 < its_links collector.now }
+            requires { 0 < its_links (its_words collector.now) }
         { two(rt, collector, 1, come, marks) },
         move || -> Result<Tried, Refusal>
-            requires { 0 < its_links collector.now }
+            requires { 0 < its_links (its_words collector.now) }
         { two(rt, collector, 1 + 2 * ROUNDS, come, marks) },
     );
     Ok(one?.and(other?))

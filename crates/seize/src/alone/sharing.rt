@@ -19,6 +19,7 @@ use seize_parts::alone::shelving::lay_all;
 use seize_parts::ender::Ender;
 use seize_parts::numbers::Numbers;
 use seize_parts::numbers::resting::Found;
+use seize_parts::parts::Parts;
 use seize_parts::reclaim::Reclaim;
 use seize_words::book::{Pass, Porter};
 use seize_words::words::Words;
@@ -27,7 +28,7 @@ use std::marker::Brand;
 
 impl<T: Drop, R: Reclaim<T>> Collector<T, R> {
     ghost use Rattle.seize_book.specs.Porters.{GoesOnTo};
-    ghost use Rattle.seize.specs.Collectors.{its_links};
+    ghost use Rattle.seize.specs.Collectors.{its_links, its_words};
     ghost use Rattle.seize.specs.Reclaims.{AddsNothing, FindsInUse};
 
     /// Gives the collector to one caller. It goes by value, so passes, guards and registrations are over. Where these were forgotten, by
@@ -44,7 +45,7 @@ impl<T: Drop, R: Reclaim<T>> Collector<T, R> {
     /// where a number is in use, and memory is refused. What had been forgotten stays so.
     pub fn alone(self) -> Result<Alone<T, R>, Collector<T, R>>
         ensures made { IfOk result (λ alone. (alone.book ≡ its_book self) × (alone.size ≡ its_size self) × (alone.id ≡ its_id self)
-            × (alone.links ≡ its_links self) × (alone.state.size ≡ alone.size) × (length alone.state.links ≡ its_links self)
+            × (alone.links ≡ its_links (its_words self)) × (alone.state.size ≡ alone.size) × (length alone.state.links ≡ its_links (its_words self))
             × GoesOnTo alone.book (seen_by self) alone.seen × AddsNothing self alone.seen × (alone.most ≡ its_most self)) }
         ensures back { IfErr result (FindsInUse self) }
     {
@@ -92,18 +93,21 @@ pub(super) fn shared<T: Drop, R: Reclaim<T>>(
     let mut places = places;
     porter.leave_home();
     lay_all(&words, &mut places, &porter);
-    Collector {
+    let parts = Parts {
         words,
-        porter,
         numbers: Lock::new(numbers),
         ender,
+    };
+    Collector {
+        parts,
+        porter,
         id,
         alloc,
     }
 }
 
 impl<T: Drop, R: Reclaim<T>> Alone<T, R> {
-    ghost use Rattle.seize.specs.Collectors.{its_links};
+    ghost use Rattle.seize.specs.Collectors.{its_links, its_words};
 
     /// Gives the collector to threads. What is in use stays so, as if its holder had been forgotten: `Collector::alone` takes it over
     /// again, and `Collector::reclaim_all` or the drop ends it. What threads retire may wait for it, so leave slots first, or call
@@ -112,7 +116,7 @@ impl<T: Drop, R: Reclaim<T>> Alone<T, R> {
     /// It takes no memory, makes no event and waits for nobody.
     pub fn share(self) -> Collector<T, R>
         ensures same { (its_book result ≡ self.book) × (its_size result ≡ self.size) × (its_id result ≡ self.id)
-            × (its_links result ≡ self.links) × (seen_by result ≡ self.seen) × (its_most result ≡ self.most) }
+            × (its_links (its_words result) ≡ self.links) × (seen_by result ≡ self.seen) × (its_most result ≡ self.most) }
     {
         let Alone {
             mut words,
