@@ -33,7 +33,7 @@ use Rattle.seize_book.specs.Tokens.{IsSole, Name, name_coded, start}
 use Rattle.seize_book.specs.declared.book.pass.Pass.{Pass}
 use Rattle.seize_words.specs.Joined.{words_book}
 use Rattle.seize_words.specs.declared.words.Words.{Words}
-use Rattle.seize_calls.specs.Slots.{IsPassFor}
+use Rattle.seize_calls.specs.Slots.{IsPassOf}
 use Rattle.seize_alone.specs.Holding.{Holds}
 use Rattle.seize_parts.specs.Enders.{IsEnderOf}
 use Rattle.seize_parts.specs.Numbers.{AreNumbers, KnowsLeast}
@@ -102,7 +102,7 @@ pub record AsListed {T : Type 0} (code : T → Gv) (a : View T) : Type 0 where
   pub holds : Holds code a.state names kinds a.book a.seen
 
 pub record ShowsHands {T : Type 0} (code : T → Gv) (words : Words T) (hands : Hands T) (pass : Pass) : Type 0 where
-  pub for : IsPassFor words pass
+  pub for : IsPassOf words pass
   pub sole : IsSole pass.id
   pub size : hands.state.size ≡ pass.size
   pub distinct : are_distinct (linked_values pass.name.links) ≡ true

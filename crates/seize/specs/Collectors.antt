@@ -21,7 +21,7 @@ use Rattle.seize_words.specs.Joined.{words_book}
 use Rattle.seize_words.specs.declared.words.Words.{Words}
 use Rattle.seize_parts.specs.Makes.{made_with}
 use Rattle.seize.specs.declared.collector.Collector.{Collector}
-pub use Rattle.seize_calls.specs.Together.{IsPassFor}
+pub use Rattle.seize_calls.specs.Together.{IsPassOf}
 pub use Rattle.seize_parts.specs.Collectors.{BelongsTo, IsBlockOf, its_links, its_store}
 
 abbrev pub its_words : {T R : Type 0} → Collector T R → Words T
@@ -51,7 +51,7 @@ BeginsEmpty collector links =
 
 abbrev pub IsNewPassOf : {T R : Type 0} → Collector T R → Pass → Type 0
 IsNewPassOf collector pass =
-    IsPassFor (its_words collector) pass × (made_with pass ≡ []) × GoesOnTo pass.name (seen_by collector) pass.seen
+    IsPassOf (its_words collector) pass × (made_with pass ≡ []) × GoesOnTo pass.name (seen_by collector) pass.seen
 
 -- in this order
 abbrev pub IsRefusalFor : ℕ → ℕ → Refusal → Type 0

@@ -89,7 +89,7 @@ impl<T: Drop, R: Reclaim<T>> Collector<T, R> {
     ghost use Rattle.seize_table.specs.declared.refusal.Refusal.TheVariants.{NoMemory as no_memory};
     ghost use Rattle.seize_parts.specs.Blocks.{HasContent, content};
     ghost use Rattle.seize_parts.specs.Links.{IsUnlinkedOf, unlinked_name};
-    ghost use Rattle.seize.specs.Collectors.{BeginsEmpty, BelongsTo, IsBlockOf, IsNewPassOf, IsPassFor, IsRefusalFor, its_book, its_id, its_links, its_most, its_size, its_words, seen_by};
+    ghost use Rattle.seize.specs.Collectors.{BeginsEmpty, BelongsTo, IsBlockOf, IsNewPassOf, IsPassOf, IsRefusalFor, its_book, its_id, its_links, its_most, its_size, its_words, seen_by};
     ghost use Rattle.seize_parts.specs.Registrations.{registered_home, registered_in, registered_slot};
     ghost use Rattle.seize_book.specs.Porters.{Shuts};
     ghost use Rattle.seize_parts.specs.Makes.{MakesNone, TakesNumber};
@@ -202,7 +202,7 @@ impl<T: Drop, R: Reclaim<T>> Collector<T, R> {
     )
         ensures words { (words_book result.0 ≡ its_book self) × (result.0.size ≡ its_size self) × AreShared result.0.links
             × (result.0.sizes.most ≡ its_most self) }
-        ensures pass { IsPassFor result.0 result.1 × Shuts self.porter result.1 }
+        ensures pass { IsPassOf result.0 result.1 × Shuts self.porter result.1 }
         ensures numbers { AreNumbers result.2 × IsLockFor result.0 result.2 }
         ensures ender { IsEnderOf result.0 (box_value result.3) }
         ensures id { result.4 ≡ its_id self }
@@ -285,7 +285,7 @@ impl<T: Drop, R: Reclaim<T>> Collector<T, R> {
         rt: &W,
         pass: &mut Pass,
     ) -> Result<Registration<'_, T, R>, Refusal>
-        requires pass { IsPassFor (its_words self.now) pass.old }
+        requires pass { IsPassOf (its_words self.now) pass.old }
         ensures made { IfOk result (λ made. (registered_in made ≡ its_words self.now) × (registered_home made ≡ self.now)
             × TakesNumber (PutBy T.row.coded.code R.puts) (registered_slot made) pass.old pass.new) }
         ensures refused { IfErr result (λ refusal. MakesNone pass.old pass.new × (refusal ≡ no_memory)) }
@@ -297,7 +297,7 @@ impl<T: Drop, R: Reclaim<T>> Collector<T, R> {
 impl<T: Drop, R: Reclaim<T>> Collector<T, R> {
     ghost use Rattle.std.specs.Prelude.{IfErr, IfOk};
     ghost use Rattle.seize_table.specs.declared.refusal.Refusal.TheVariants.{NoMemory as no_memory};
-    ghost use Rattle.seize.specs.Collectors.{IsPassFor, its_most, its_words, seen_by};
+    ghost use Rattle.seize.specs.Collectors.{IsPassOf, its_most, its_words, seen_by};
     ghost use Rattle.seize_parts.specs.Laws.{HaveContents, LawsHold};
     ghost use Rattle.seize_parts.specs.Rules.{KeepsSince};
     ghost use Rattle.seize_parts.specs.Makes.{MakesNone, TakesAndEnters};
@@ -318,7 +318,7 @@ impl<T: Drop, R: Reclaim<T>> Collector<T, R> {
         rt: &W,
         pass: &mut Pass,
     ) -> Result<OwnedGuard<'_, T, R>, Refusal>
-        requires pass { IsPassFor (its_words self.now) pass.old }
+        requires pass { IsPassOf (its_words self.now) pass.old }
         ensures made { IfOk result (λ guard. (owned_collector guard ≡ its_words self.now) × (owned_home guard ≡ self.now)
             × TakesAndEnters (PutBy T.row.coded.code R.puts) (owned_slot guard) pass.old pass.new) }
         ensures refused { IfErr result (λ refusal. MakesNone pass.old pass.new × (refusal ≡ no_memory)) }
@@ -338,7 +338,7 @@ impl<T: Drop, R: Reclaim<T>> Collector<T, R> {
     ///
     /// It makes no event, and does nothing when the program runs: its contract is the laws.
     pub fn laws(&self, pass: &mut Pass)
-        requires pass { IsPassFor (its_words self.now) pass.old }
+        requires pass { IsPassOf (its_words self.now) pass.old }
         ensures none { MakesNone pass.old pass.new }
         ensures laws { LawsHold (its_most self.now) pass.new }
         ensures contents { HaveContents T.row.coded.code pass.new }
@@ -362,10 +362,10 @@ struct Sweep<'a, 'e, 'n, 'w, T: Drop, R: Reclaim<T>, W> {
 impl<'a, 'e, 'n, 'w, T: Drop, R: Reclaim<T>, W: Watch<T>> Stay<bool>
     for Sweep<'a, 'e, 'n, 'w, T, R, W> {
     ghost use Rattle.seize_book.specs.Tokens.{IsSole};
-    ghost use Rattle.seize_calls.specs.Slots.{IsPassFor};
+    ghost use Rattle.seize_calls.specs.Slots.{IsPassOf};
     ghost use Rattle.seize_parts.specs.Sweeps.{Sweeps};
 
-    ghost may = { λ sweep pass. IsPassFor sweep.words.now pass × IsSole pass.id × IsEnderOf sweep.words.now sweep.ender.now
+    ghost may = { λ sweep pass. IsPassOf sweep.words.now pass × IsSole pass.id × IsEnderOf sweep.words.now sweep.ender.now
         × (sweep.numbers.now ≡ (words_book sweep.words.now).family) };
 
     ghost gives = { λ sweep sweep' pass pass' result. (sweep'.numbers ≡ sweep.numbers)

@@ -1,7 +1,7 @@
 //! A work whose reclaimer puts further values.
 ghost use Rattle.std.specs.Prelude.{◌≡◌, All, IfOk};
 ghost use Rattle.seize.specs.Blocks.{Belongs};
-ghost use Rattle.seize.specs.Collectors.{BelongsTo, IsPassFor, its_store};
+ghost use Rattle.seize.specs.Collectors.{BelongsTo, IsPassOf, its_store};
 ghost use Rattle.seize.specs.Registrations.{registered_in};
 ghost use Rattle.seize_uses.specs.Nests.{nest_owners};
 
@@ -53,8 +53,8 @@ fn retire_pairs<W: Wait>(
     rt: &W,
     pass: &mut Pass,
 ) -> Result<(), Refusal>
-    requires { IsPassFor (registered_in holder.now) pass.old }
-    ensures { IsPassFor (registered_in holder.now) pass.new }
+    requires { IsPassOf (registered_in holder.now) pass.old }
+    ensures { IsPassOf (registered_in holder.now) pass.new }
 {
     for number in 0..RETIRED {
         let block = pair(holder, alloc, number)?;
@@ -71,8 +71,8 @@ fn retire_many<W: Wait>(
     rt: &W,
     pass: &mut Pass,
 ) -> Result<u64, Refusal>
-    requires { IsPassFor (registered_in holder.now) pass.old }
-    ensures { IsPassFor (registered_in holder.now) pass.new }
+    requires { IsPassOf (registered_in holder.now) pass.old }
+    ensures { IsPassOf (registered_in holder.now) pass.new }
 {
     for _ in 0..TURNS {
         let guard = holder.enter(pass)?;
@@ -91,8 +91,8 @@ fn runs<R: Clock + CpuClock + Wait>(
     pass: &mut Pass,
     samples: &mut Samples,
 ) -> io::Result<()>
-    requires { IsPassFor (registered_in holder.now) pass.old }
-    ensures { IsPassFor (registered_in holder.now) pass.new }
+    requires { IsPassOf (registered_in holder.now) pass.old }
+    ensures { IsPassOf (registered_in holder.now) pass.new }
 {
     for _ in 0..RUNS {
         let span = Span::begun(rt)?;

@@ -1,6 +1,6 @@
 //! What ends with its collector: each value that links or batches hold, once.
 ghost use Rattle.std.specs.Prelude.{◌≡◌, ◌<◌, IfOk, IfSome};
-ghost use Rattle.seize.specs.Collectors.{IsBlockOf, IsPassFor, its_links, its_words};
+ghost use Rattle.seize.specs.Collectors.{IsBlockOf, IsPassOf, its_links, its_words};
 ghost use Rattle.seize.specs.Registrations.{registered_in};
 
 use seize::{Collector, Guard, IdSource, Owned, Pass, Refusal, Registration};
@@ -45,9 +45,9 @@ fn put<'a>(
     ends: &'a AtomicU64,
     pass: &mut Pass,
 ) -> Result<(), Refusal>
-    requires pass { IsPassFor (registered_in registration.now) pass.old }
+    requires pass { IsPassOf (registered_in registration.now) pass.old }
     requires link { link < its_links (registered_in registration.now) }
-    ensures { IsPassFor (registered_in registration.now) pass.new }
+    ensures { IsPassOf (registered_in registration.now) pass.new }
 {
     let guard = registration.enter(pass)?;
     let new = block(guard.collector(), ends);
@@ -68,8 +68,8 @@ pub(crate) fn retire<'c, 'a>(
     pass: &mut Pass,
 )
     requires its { registered_in registration.now ≡ collector.now }
-    requires pass { IsPassFor (its_words collector.now) pass.old }
-    ensures { IsPassFor (its_words collector.now) pass.new }
+    requires pass { IsPassOf (its_words collector.now) pass.old }
+    ensures { IsPassOf (its_words collector.now) pass.new }
 {
     for _ in 0..count {
         if let Some(owned) = block(collector, ends) {

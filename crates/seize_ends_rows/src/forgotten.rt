@@ -2,7 +2,7 @@
 //! So it is with the collector's drop. What is gone in another way stays.
 ghost use Rattle.std.specs.Prelude.{◌≡◌};
 ghost use base.Stored.{coded_unit};
-ghost use Rattle.seize.specs.Collectors.{IsPassFor, its_words};
+ghost use Rattle.seize.specs.Collectors.{IsPassOf, its_words};
 ghost use Rattle.seize.specs.Registrations.{registered_in};
 
 use crate::ending::{Counting, collector, put_in_all};
@@ -55,8 +55,8 @@ pub(crate) fn retire<'c, 'a>(
     pass: &mut Pass,
 )
     requires its { registered_in registration.now ≡ collector.now }
-    requires pass { IsPassFor (its_words collector.now) pass.old }
-    ensures { IsPassFor (its_words collector.now) pass.new }
+    requires pass { IsPassOf (its_words collector.now) pass.old }
+    ensures { IsPassOf (its_words collector.now) pass.new }
 {
     for digit in digits {
         if let Ok(owned) = collector.owned(Digit { digit, told }) {
@@ -80,8 +80,8 @@ pub(crate) fn forget_guard<T: Drop>(
     registration: &Registration<'_, T>,
     pass: &mut Pass,
 ) -> Result<(), Refusal>
-    requires { IsPassFor (registered_in registration.now) pass.old }
-    ensures { IsPassFor (registered_in registration.now) pass.new }
+    requires { IsPassOf (registered_in registration.now) pass.old }
+    ensures { IsPassOf (registered_in registration.now) pass.new }
 {
     let guard = registration.enter(pass)?;
     guard.forget(pass);
@@ -196,8 +196,8 @@ fn call_beside<'c, 'a>(
     told: &'a AtomicU64,
     pass: &mut Pass,
 ) -> Result<(), Refusal>
-    requires { IsPassFor (registered_in registration.now) pass.old }
-    ensures { IsPassFor (registered_in registration.now) pass.new }
+    requires { IsPassOf (registered_in registration.now) pass.old }
+    ensures { IsPassOf (registered_in registration.now) pass.new }
 {
     let mut guard = registration.enter(pass)?;
     drop(guard.owned(Digit { digit: 7, told }));

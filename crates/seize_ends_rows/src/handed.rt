@@ -1,7 +1,7 @@
 //! Blocks that came out of a link, and are retired by another thread.
 ghost use Rattle.std.specs.Prelude.{◌≡◌, ◌<◌, IfOk, IfSome};
 ghost use Rattle.seize.specs.Links.{IsUnlinkedOf};
-ghost use Rattle.seize.specs.Collectors.{IsBlockOf, IsPassFor, its_links, its_words};
+ghost use Rattle.seize.specs.Collectors.{IsBlockOf, IsPassOf, its_links, its_words};
 ghost use Rattle.seize.specs.Guards.{owned_collector};
 ghost use Rattle.seize.specs.Registrations.{registered_in};
 
@@ -79,10 +79,10 @@ fn put<'c, 'a, R: Threads + Wait + Sync>(
     registration: Registration<'c, Marked<'a>>,
     pass: &mut Pass,
 ) -> Option<(u64, u64)>
-    requires of { IsPassFor (owned_collector guard.now) pass.old × (0 < its_links (owned_collector guard.now)) }
+    requires of { IsPassOf (owned_collector guard.now) pass.old × (0 < its_links (owned_collector guard.now)) }
     requires value { IfSome value (λ owned. IsBlockOf (owned_collector guard.now) owned) }
     requires by { registered_in registration ≡ owned_collector guard.now }
-    ensures { IsPassFor (owned_collector guard.now) pass.new }
+    ensures { IsPassOf (owned_collector guard.now) pass.new }
 {
     match guard.swap(0, value, pass) {
         Some(block) => Some(retire_elsewhere(rt, registration, block)),

@@ -1,7 +1,7 @@
 //! A reclaimer of the caller's own: each value goes to it once, with the kind that its retirement said, by whatever call ends the value.
 ghost use Rattle.std.proofs.Common.{lit<};
 ghost use Rattle.std.specs.Prelude.{◌≡◌, IfOk};
-ghost use Rattle.seize.specs.Collectors.{IsPassFor, its_links, its_words};
+ghost use Rattle.seize.specs.Collectors.{IsPassOf, its_links, its_words};
 ghost use Rattle.seize.specs.Guards.{owned_collector};
 ghost use Rattle.seize.specs.Registrations.{registered_in};
 
@@ -78,8 +78,8 @@ fn retire<'a>(
     kind: u64,
     pass: &mut Pass,
 ) -> Result<(), Refusal>
-    requires { IsPassFor (registered_in registration.now) pass.old }
-    ensures { IsPassFor (registered_in registration.now) pass.new }
+    requires { IsPassOf (registered_in registration.now) pass.old }
+    ensures { IsPassOf (registered_in registration.now) pass.new }
 {
     let collector = registration.collector();
     let owned = collector.owned(value).map_err(|(refusal, _)| refusal)?;
@@ -142,8 +142,8 @@ fn the_last_end_calls_the_reclaimer(rt: HostRuntime) -> Result<(), Fail> {
 
 // Puts a value into the link, and retires what was there as of the third kind.
 fn put<'a>(rt: &impl Wait, guard: &OwnedGuard<'_, u64, Sums<'a>>, value: u64, pass: &mut Pass)
-    requires of { IsPassFor (owned_collector guard.now) pass.old × (its_links (owned_collector guard.now) ≡ 1) }
-    ensures { IsPassFor (owned_collector guard.now) pass.new }
+    requires of { IsPassOf (owned_collector guard.now) pass.old × (its_links (owned_collector guard.now) ≡ 1) }
+    ensures { IsPassOf (owned_collector guard.now) pass.new }
 {
     if let Ok(owned) = guard.owned(value) {
         if let Some(old) = guard.swap(0, Some(owned), pass) {

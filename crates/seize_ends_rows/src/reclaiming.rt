@@ -2,7 +2,7 @@
 //! the collector is shared again.
 
 ghost use Rattle.std.specs.Prelude.{◌≡◌, ◌<◌, IfOk};
-ghost use Rattle.seize.specs.Collectors.{IsPassFor, its_links, its_words};
+ghost use Rattle.seize.specs.Collectors.{IsPassOf, its_links, its_words};
 ghost use Rattle.seize.specs.Registrations.{registered_in};
 
 use crate::ending::{Counting, TIMES, collector, put_by_two, put_in_all, retire, retire_by_two};
@@ -87,8 +87,8 @@ fn put<'a>(
     number: Marked<'a>,
     pass: &mut Pass,
 ) -> Result<(), Refusal>
-    requires of { IsPassFor (registered_in registration.now) pass.old × (0 < its_links (registered_in registration.now)) }
-    ensures { IsPassFor (registered_in registration.now) pass.new }
+    requires of { IsPassOf (registered_in registration.now) pass.old × (0 < its_links (registered_in registration.now)) }
+    ensures { IsPassOf (registered_in registration.now) pass.new }
 {
     let block = match registration.owned(number) {
         Ok(block) => block,
@@ -131,8 +131,8 @@ fn read<'a>(
     registration: &Registration<'_, Marked<'a>>,
     pass: &mut Pass,
 ) -> Result<Option<u64>, Refusal>
-    requires of { IsPassFor (registered_in registration.now) pass.old × (0 < its_links (registered_in registration.now)) }
-    ensures { IsPassFor (registered_in registration.now) pass.new }
+    requires of { IsPassOf (registered_in registration.now) pass.old × (0 < its_links (registered_in registration.now)) }
+    ensures { IsPassOf (registered_in registration.now) pass.new }
 {
     let guard = registration.enter(pass)?;
     let found = guard.protect(0, pass).map(|shared| shared.value);

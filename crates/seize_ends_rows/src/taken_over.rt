@@ -1,6 +1,6 @@
 //! What was forgotten, taken over by one caller: its slots are in use, with their guards, and what waits for them goes when they leave. A
 //! holder that is lost keeps the caller out.
-ghost use Rattle.seize.specs.Collectors.{IsPassFor};
+ghost use Rattle.seize.specs.Collectors.{IsPassOf};
 
 use crate::forgotten::{Digits, Telling, forget_guard, forget_owned, register, retire, telling};
 use seize::{Alone, Refusal, Registration};

@@ -3,7 +3,7 @@
 ghost use Rattle.std.specs.Prelude.{◌≡◌, ◌⊎◌, ℕ, IfErr, IfOk};
 ghost use Rattle.seize_machine.specs.declared.machine.event.Job.TheVariants.{Flush, Refresh, Retire};
 ghost use Rattle.seize_table.specs.declared.refusal.Refusal.TheVariants.{NoMemory as no_memory};
-ghost use Rattle.seize_calls.specs.Slots.{IsPassFor};
+ghost use Rattle.seize_calls.specs.Slots.{IsPassOf};
 ghost use Rattle.seize_parts.specs.Blocks.{content};
 ghost use Rattle.seize_parts.specs.Links.{IsUnlinkedOf, unlinked_name};
 ghost use Rattle.seize_parts.specs.Collectors.{IsBlockOf};
@@ -66,13 +66,13 @@ pub trait Guard<T: Drop> {
     /// It takes no memory. An insertion is tried again as often as other threads change the head between a look at it and the try. A local
     /// guard waits for ever within another call of the same registration; an owned guard waits while another thread has its lock.
     fn defer_retire<W: Wait>(&self, rt: &W, pass: &mut Pass, value: Unlinked<'_, T>)
-        requires of { IsPassFor (its_collector self.now) pass.old × IsUnlinkedOf (its_collector self.now) value }
+        requires of { IsPassOf (its_collector self.now) pass.old × IsUnlinkedOf (its_collector self.now) value }
         ensures call { Defers (its_slot self.now) (Retire (unlinked_name value.entry)) pass.old pass.new }
         ensures kind { IsOfKind (unlinked_name value.entry) 0 pass.new };
 
     /// The same, and says of which kind the value is: see `Registration::retire_as`.
     fn defer_retire_as<W: Wait>(&self, rt: &W, pass: &mut Pass, value: Unlinked<'_, T>, kind: u64)
-        requires of { IsPassFor (its_collector self.now) pass.old × IsUnlinkedOf (its_collector self.now) value }
+        requires of { IsPassOf (its_collector self.now) pass.old × IsUnlinkedOf (its_collector self.now) value }
         ensures call { Defers (its_slot self.now) (Retire (unlinked_name value.entry)) pass.old pass.new }
         ensures kind { IsOfKind (unlinked_name value.entry) kind pass.new };
 
@@ -80,7 +80,7 @@ pub trait Guard<T: Drop> {
     ///
     /// It takes no memory and waits as `defer_retire` does.
     fn flush<W: Wait>(&self, rt: &W, pass: &mut Pass)
-        requires of { IsPassFor (its_collector self.now) pass.old }
+        requires of { IsPassOf (its_collector self.now) pass.old }
         ensures { Defers (its_slot self.now) Flush pass.old pass.new };
 
     /// Ends the slot's activation and begins another, where this is the slot's only guard; beside others it does nothing. What waited for
@@ -89,7 +89,7 @@ pub trait Guard<T: Drop> {
     /// But for what that does, it takes no memory. A local guard waits for ever within another call of the same registration, and else a
     /// guard waits for nobody.
     fn refresh<W: Wait>(&mut self, rt: &W, pass: &mut Pass)
-        requires of { IsPassFor (its_collector self.old) pass.old }
+        requires of { IsPassOf (its_collector self.old) pass.old }
         ensures same { (its_collector self.new ≡ its_collector self.old)
             × (its_slot self.new ≡ its_slot self.old) }
         ensures refreshes { MakesCall (PutBy T.row.coded.code Self.Reclaimer.puts) (its_slot self.old) Refresh pass.old pass.new

@@ -1,6 +1,6 @@
 //! How a thread comes to a slot: by a registration, or by a guard that has a slot of its own. Each takes the least number that is not in use.
 ghost use Rattle.std.specs.Prelude.{◌≡◌, IfErr, IfOk};
-ghost use Rattle.seize_calls.specs.Slots.{IsPassFor};
+ghost use Rattle.seize_calls.specs.Slots.{IsPassOf};
 ghost use Rattle.seize_parts.specs.Guards.{owned_collector, owned_home, owned_slot};
 ghost use Rattle.seize_parts.specs.Makes.{TakesAndEnters, TakesNumber};
 ghost use Rattle.seize_parts.specs.Numbers.{TakesNone};
@@ -31,7 +31,7 @@ pub fn register<'c, T: Drop, R: Reclaim<T>, C: Home<T>, W: Wait>(
     pass: &mut Pass,
 ) -> Result<Registration<'c, T, R, C>, Refusal>
     requires home { parts.now.words ≡ C.its_words home.now }
-    requires pass { IsPassFor parts.now.words pass.old }
+    requires pass { IsPassOf parts.now.words pass.old }
     ensures made { IfOk result (λ made. (registered_in made ≡ parts.now.words) × (registered_home made ≡ home.now)
         × TakesNumber (PutBy T.row.coded.code R.puts) (registered_slot made) pass.old pass.new) }
     ensures refused { IfErr result (λ refusal. TakesNone pass.old pass.new refusal) }
@@ -54,7 +54,7 @@ pub fn enter_owned<'c, T: Drop, R: Reclaim<T>, C: Home<T>, W: Wait>(
     pass: &mut Pass,
 ) -> Result<OwnedGuard<'c, T, R, C>, Refusal>
     requires home { parts.now.words ≡ C.its_words home.now }
-    requires pass { IsPassFor parts.now.words pass.old }
+    requires pass { IsPassOf parts.now.words pass.old }
     ensures made { IfOk result (λ guard. (owned_collector guard ≡ parts.now.words) × (owned_home guard ≡ home.now)
         × TakesAndEnters (PutBy T.row.coded.code R.puts) (owned_slot guard) pass.old pass.new) }
     ensures refused { IfErr result (λ refusal. TakesNone pass.old pass.new refusal) }

@@ -42,7 +42,7 @@ impl<'c, T: Drop, R: Reclaim<T>, C: Home<T>> Registration<'c, T, R, C> {
     ghost use Rattle.seize_machine.specs.declared.machine.event.Job.TheVariants.{Retire};
     ghost use Rattle.seize_table.specs.declared.refusal.Refusal.TheVariants.{NoMemory as no_memory, TooManyGuards as too_many_guards};
     ghost use Rattle.std.specs.Prelude.{IfErr, IfOk};
-    ghost use Rattle.seize_calls.specs.Slots.{IsInactive, IsPassFor, IsSlotOf, Prepares, its_number};
+    ghost use Rattle.seize_calls.specs.Slots.{IsInactive, IsPassOf, IsSlotOf, Prepares, its_number};
     ghost use Rattle.seize_parts.specs.Puts.{PutBy};
     ghost use Rattle.seize_parts.specs.Registrations.{registered_home, registered_in, registered_slot};
     ghost use Rattle.seize_parts.specs.Blocks.{content};
@@ -63,7 +63,7 @@ impl<'c, T: Drop, R: Reclaim<T>, C: Home<T>> Registration<'c, T, R, C> {
         requires home { parts.now.words ≡ C.its_words home.now }
         requires slot { IsSlotOf parts.now.words slot × IsInactive slot }
         requires shelf { IsShelfFor parts.now.words shelf }
-        requires pass { IsPassFor parts.now.words pass.old }
+        requires pass { IsPassOf parts.now.words pass.old }
         ensures of { (registered_in result ≡ parts.now.words) × (registered_slot result ≡ its_number slot) × (registered_home result ≡ home.now) }
         ensures looks { Prepares slot pass.old pass.new }
     {
@@ -105,7 +105,7 @@ impl<'c, T: Drop, R: Reclaim<T>, C: Home<T>> Registration<'c, T, R, C> {
     /// the `Drop` of a value that the call reclaims. No event was made then.
     #[inline(always)]
     pub fn enter(&self, pass: &mut Pass) -> Result<LocalGuard<'_, 'c, T, R, C>, Refusal>
-        requires pass { IsPassFor (registered_in self.now) pass.old }
+        requires pass { IsPassOf (registered_in self.now) pass.old }
         ensures made { IfOk result (λ guard. IsGuardOf self.now guard × Enters (registered_slot self.now) pass.old pass.new) }
         ensures refused { IfErr result (λ refusal. (refusal ≡ too_many_guards) × (pass.new ≡ pass.old)) }
     {
@@ -159,7 +159,7 @@ impl<'c, T: Drop, R: Reclaim<T>, C: Home<T>> Registration<'c, T, R, C> {
     /// it and the try. Within another call of the same registration it waits for ever.
     #[inline(always)]
     pub fn retire<W: Wait>(&self, rt: &W, pass: &mut Pass, value: Unlinked<'_, T>)
-        requires pass { IsPassFor (registered_in self.now) pass.old }
+        requires pass { IsPassOf (registered_in self.now) pass.old }
         requires value { IsUnlinkedOf (registered_in self.now) value }
         ensures call { MakesCall (PutBy T.row.coded.code R.puts) (registered_slot self.now) (Retire (unlinked_name value.entry))
             pass.old pass.new }
@@ -172,7 +172,7 @@ impl<'c, T: Drop, R: Reclaim<T>, C: Home<T>> Registration<'c, T, R, C> {
     /// value.
     #[inline(always)]
     pub fn retire_as<W: Wait>(&self, rt: &W, pass: &mut Pass, value: Unlinked<'_, T>, kind: u64)
-        requires pass { IsPassFor (registered_in self.now) pass.old }
+        requires pass { IsPassOf (registered_in self.now) pass.old }
         requires value { IsUnlinkedOf (registered_in self.now) value }
         ensures call { MakesCall (PutBy T.row.coded.code R.puts) (registered_slot self.now) (Retire (unlinked_name value.entry))
             pass.old pass.new }
@@ -201,9 +201,9 @@ impl<'c, T: Drop, R: Reclaim<T>, C: Home<T>> Registration<'c, T, R, C> {
     /// But for what the reclaimer does, it takes no memory. It waits for other threads that register or end. There is no bound for its
     /// attempts where reclaimers put more each time.
     pub fn end<W: Wait>(self, rt: &W, pass: &mut Pass) -> bool
-        requires pass { IsPassFor (registered_in self) pass.old }
+        requires pass { IsPassOf (registered_in self) pass.old }
         ensures ends { EndsUse (PutBy T.row.coded.code R.puts) (registered_slot self.entry) pass.old pass.new result }
-        ensures pass { IsPassFor (registered_in self.entry) pass.new }
+        ensures pass { IsPassOf (registered_in self.entry) pass.new }
     {
         let Registration {
             home: _,

@@ -1,6 +1,6 @@
 //! Guards of several slots, on one thread: whose leaving or refreshing ends what was retired, and how exchanges end.
 ghost use Rattle.std.specs.Prelude.{◌≡◌, ◌<◌, IfOk, IfSome};
-ghost use Rattle.seize.specs.Collectors.{IsBlockOf, IsPassFor, its_links, its_words};
+ghost use Rattle.seize.specs.Collectors.{IsBlockOf, IsPassOf, its_links, its_words};
 ghost use Rattle.seize.specs.Guards.{guard_collector};
 
 use seize::{Collector, Guard, IdSource, LocalGuard, Owned, Pass, Refusal};
@@ -36,8 +36,8 @@ pub(crate) fn retire<'a>(
     ends: &'a AtomicU64,
     pass: &mut Pass,
 )
-    requires of { IsPassFor (guard_collector guard.now) pass.old × (0 < its_links (guard_collector guard.now)) }
-    ensures { IsPassFor (guard_collector guard.now) pass.new }
+    requires of { IsPassOf (guard_collector guard.now) pass.old × (0 < its_links (guard_collector guard.now)) }
+    ensures { IsPassOf (guard_collector guard.now) pass.new }
 {
     for _ in 0..count {
         let new = block(guard.collector(), ends);
@@ -136,8 +136,8 @@ fn a_flush_attempts_a_short_batch(rt: HostRuntime) -> Result<(), Fail> {
 
 // Registers so many times, one after the other: each time the number is 0, and goes back.
 fn register_often(rt: &(impl Wait + Abort), collector: &Collector<u64>, times: u64, pass: &mut Pass)
-    requires { IsPassFor (its_words collector.now) pass.old }
-    ensures { IsPassFor (its_words collector.now) pass.new }
+    requires { IsPassOf (its_words collector.now) pass.old }
+    ensures { IsPassOf (its_words collector.now) pass.new }
 {
     for _ in 0..times {
         let registration = collector.register(rt, pass).expect(rt, "memory");
@@ -171,8 +171,8 @@ fn exchange_twice(
     rt: &impl Wait,
     pass: &mut Pass,
 ) -> Option<(u64, u64, bool)>
-    requires of { IsPassFor (guard_collector guard.now) pass.old × (0 < its_links (guard_collector guard.now)) }
-    ensures { IsPassFor (guard_collector guard.now) pass.new }
+    requires of { IsPassOf (guard_collector guard.now) pass.old × (0 < its_links (guard_collector guard.now)) }
+    ensures { IsPassOf (guard_collector guard.now) pass.new }
 {
     let core = guard.core();
     let new = core.collector().owned(3).ok()?;
@@ -222,8 +222,8 @@ fn an_exchange_is_lost_and_then_won(rt: HostRuntime) -> Result<(), Fail> {
 
 // Puts a block into the link, and retires what came out.
 fn fill(guard: &LocalGuard<'_, '_, u64>, rt: &impl Wait, link: usize, pass: &mut Pass)
-    requires of { IsPassFor (guard_collector guard.now) pass.old × (link < its_links (guard_collector guard.now)) }
-    ensures { IsPassFor (guard_collector guard.now) pass.new }
+    requires of { IsPassOf (guard_collector guard.now) pass.old × (link < its_links (guard_collector guard.now)) }
+    ensures { IsPassOf (guard_collector guard.now) pass.new }
 {
     let block = guard.owned(7).ok();
     if let Some(old) = guard.swap(link, block, pass) {
@@ -233,8 +233,8 @@ fn fill(guard: &LocalGuard<'_, '_, u64>, rt: &impl Wait, link: usize, pass: &mut
 
 // Whether two reads of link 0 find the same block, and whether a read of link 1 finds that one too.
 fn same_block(guard: &LocalGuard<'_, '_, u64>, pass: &mut Pass) -> Option<(bool, bool)>
-    requires of { IsPassFor (guard_collector guard.now) pass.old × (1 < its_links (guard_collector guard.now)) }
-    ensures { IsPassFor (guard_collector guard.now) pass.new }
+    requires of { IsPassOf (guard_collector guard.now) pass.old × (1 < its_links (guard_collector guard.now)) }
+    ensures { IsPassOf (guard_collector guard.now) pass.new }
 {
     let first = guard.protect(0, pass)?;
     let again = guard.protect(0, pass)?;

@@ -1,6 +1,6 @@
 //! Two threads of which neither ends before it has seen the other: no call of one waits for a guard of the other's.
 ghost use Rattle.std.specs.Prelude.{◌≡◌, ◌<◌, IfOk};
-ghost use Rattle.seize.specs.Collectors.{IsPassFor, its_links, its_words};
+ghost use Rattle.seize.specs.Collectors.{IsPassOf, its_links, its_words};
 ghost use Rattle.seize.specs.Guards.{guard_collector};
 ghost use Rattle.seize.specs.Registrations.{registered_in};
 
@@ -28,8 +28,8 @@ pub(crate) fn put(
     number: u64,
     pass: &mut Pass,
 ) -> Result<Option<u64>, Refusal>
-    requires of { IsPassFor (guard_collector guard.now) pass.old × (0 < its_links (guard_collector guard.now)) }
-    ensures { IsPassFor (guard_collector guard.now) pass.new }
+    requires of { IsPassOf (guard_collector guard.now) pass.old × (0 < its_links (guard_collector guard.now)) }
+    ensures { IsPassOf (guard_collector guard.now) pass.new }
 {
     let block = match guard.collector().owned(number) {
         Ok(block) => block,
@@ -52,8 +52,8 @@ fn turn(
     number: u64,
     pass: &mut Pass,
 ) -> Result<Option<u64>, Refusal>
-    requires of { IsPassFor (registered_in registration.now) pass.old × (0 < its_links (registered_in registration.now)) }
-    ensures { IsPassFor (registered_in registration.now) pass.new }
+    requires of { IsPassOf (registered_in registration.now) pass.old × (0 < its_links (registered_in registration.now)) }
+    ensures { IsPassOf (registered_in registration.now) pass.new }
 {
     let guard = registration.enter(pass)?;
     let out = put(rt, &guard, number, pass);
@@ -68,8 +68,8 @@ fn turn_until(
     number: u64,
     pass: &mut Pass,
 ) -> Result<bool, Refusal>
-    requires of { IsPassFor (registered_in registration.now) pass.old × (0 < its_links (registered_in registration.now)) }
-    ensures { IsPassFor (registered_in registration.now) pass.new }
+    requires of { IsPassOf (registered_in registration.now) pass.old × (0 < its_links (registered_in registration.now)) }
+    ensures { IsPassOf (registered_in registration.now) pass.new }
 {
     for _ in 0..MOST {
         if let Some(out) = turn(rt, registration, number, pass)? {

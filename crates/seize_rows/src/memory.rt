@@ -1,7 +1,7 @@
 //! Which calls ask for no memory. Each test gives a sign when it is set up, by a request for memory of a size that no other has. The script
 //! `tools/memory` runs these tests with each request after that refused.
 ghost use Rattle.std.specs.Prelude.{◌≡◌, ◌<◌, IfOk};
-ghost use Rattle.seize.specs.Collectors.{IsBlockOf, IsPassFor, its_links, its_words};
+ghost use Rattle.seize.specs.Collectors.{IsBlockOf, IsPassOf, its_links, its_words};
 ghost use Rattle.seize.specs.Guards.{guard_collector};
 ghost use Rattle.seize.specs.Registrations.{registered_in};
 
@@ -46,9 +46,9 @@ pub(crate) fn put<'a>(
     block: Owned<Counted<'a>>,
     pass: &mut Pass,
 ) -> Result<(), Refusal>
-    requires of { IsPassFor (registered_in registration.now) pass.old × (link < its_links (registered_in registration.now)) }
+    requires of { IsPassOf (registered_in registration.now) pass.old × (link < its_links (registered_in registration.now)) }
     requires block { IsBlockOf (registered_in registration.now) block }
-    ensures { IsPassFor (registered_in registration.now) pass.new }
+    ensures { IsPassOf (registered_in registration.now) pass.new }
 {
     let guard = registration.enter(pass)?;
     if let Some(old) = guard.swap(link, Some(block), pass) {
@@ -67,8 +67,8 @@ fn put_all<'a>(
     ends: &'a AtomicU64,
     pass: &mut Pass,
 ) -> Result<(), Refusal>
-    requires of { IsPassFor (registered_in registration.now) pass.old × (its_links (registered_in registration.now) ≡ 10) }
-    ensures { IsPassFor (registered_in registration.now) pass.new }
+    requires of { IsPassOf (registered_in registration.now) pass.old × (its_links (registered_in registration.now) ≡ 10) }
+    ensures { IsPassOf (registered_in registration.now) pass.new }
 {
     if count == 0 {
         return give_sign(alloc);
@@ -80,8 +80,8 @@ fn put_all<'a>(
 
 // Reads link 0, takes out what it read by an exchange, and retires that. It says whether the exchange was won.
 fn take_out<'a>(rt: &impl Wait, guard: &LocalGuard<'_, '_, Counted<'a>>, pass: &mut Pass) -> bool
-    requires of { IsPassFor (guard_collector guard.now) pass.old × (0 < its_links (guard_collector guard.now)) }
-    ensures { IsPassFor (guard_collector guard.now) pass.new }
+    requires of { IsPassOf (guard_collector guard.now) pass.old × (0 < its_links (guard_collector guard.now)) }
+    ensures { IsPassOf (guard_collector guard.now) pass.new }
 {
     let found = guard.protect(0, pass);
     match guard.compare_exchange(0, found.as_ref(), None, pass) {
@@ -103,8 +103,8 @@ fn make_calls<'a>(
     ends: &'a AtomicU64,
     pass: &mut Pass,
 ) -> Result<([u64; 4], bool), Refusal>
-    requires of { IsPassFor (registered_in registration.now) pass.old × (its_links (registered_in registration.now) ≡ 10) }
-    ensures { IsPassFor (registered_in registration.now) pass.new }
+    requires of { IsPassOf (registered_in registration.now) pass.old × (its_links (registered_in registration.now) ≡ 10) }
+    ensures { IsPassOf (registered_in registration.now) pass.new }
 {
     put_all(rt, alloc, registration, BLOCKS, ends, pass)?;
     let put_in = ended(ends);

@@ -1,6 +1,6 @@
 //! Guards of one registration, one within another, which retire values by themselves.
 ghost use Rattle.std.specs.Prelude.{◌≡◌, ◌<◌, IfOk};
-ghost use Rattle.seize.specs.Collectors.{IsPassFor, its_links, its_words};
+ghost use Rattle.seize.specs.Collectors.{IsPassOf, its_links, its_words};
 ghost use Rattle.seize.specs.Guards.{guard_collector};
 
 use seize::{Collector, Guard, IdSource, LocalGuard, Pass, Refusal};
@@ -26,8 +26,8 @@ fn put<'a>(
     ends: &'a AtomicU64,
     pass: &mut Pass,
 )
-    requires of { IsPassFor (guard_collector guard.now) pass.old × (0 < its_links (guard_collector guard.now)) }
-    ensures { IsPassFor (guard_collector guard.now) pass.new }
+    requires of { IsPassOf (guard_collector guard.now) pass.old × (0 < its_links (guard_collector guard.now)) }
+    ensures { IsPassOf (guard_collector guard.now) pass.new }
 {
     if let Ok(block) = guard.owned(Counted { ends }) {
         if let Some(old) = guard.swap(0, Some(block), pass) {

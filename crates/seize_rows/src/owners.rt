@@ -1,6 +1,6 @@
 //! Values that own others: these end with them.
 ghost use Rattle.std.specs.Prelude.{◌≡◌, ◌<◌, IfOk};
-ghost use Rattle.seize.specs.Collectors.{IsBlockOf, IsPassFor, its_links, its_words};
+ghost use Rattle.seize.specs.Collectors.{IsBlockOf, IsPassOf, its_links, its_words};
 ghost use Rattle.seize.specs.Guards.{guard_collector};
 
 use seize::{Collector, Guard, IdSource, LocalGuard, Owned, Pass, Refusal};
@@ -45,8 +45,8 @@ fn put<'a>(
     bundle: Bundle<'a>,
     pass: &mut Pass,
 ) -> Option<usize>
-    requires of { IsPassFor (guard_collector guard.now) pass.old × (0 < its_links (guard_collector guard.now)) }
-    ensures { IsPassFor (guard_collector guard.now) pass.new }
+    requires of { IsPassOf (guard_collector guard.now) pass.old × (0 < its_links (guard_collector guard.now)) }
+    ensures { IsPassOf (guard_collector guard.now) pass.new }
 {
     let block = guard.collector().owned(bundle).ok()?;
     let old = guard.swap(0, Some(block), pass)?;

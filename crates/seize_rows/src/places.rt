@@ -1,6 +1,6 @@
 //! Blocks in places of a slot's own: they take no memory, also where the store has no free place left. It is run by `tools/memory` too.
 ghost use Rattle.std.specs.Prelude.{◌≡◌, ◌<◌, IfOk};
-ghost use Rattle.seize.specs.Collectors.{IsPassFor, its_links, its_words};
+ghost use Rattle.seize.specs.Collectors.{IsPassOf, its_links, its_words};
 ghost use Rattle.seize.specs.Guards.{guard_collector};
 ghost use Rattle.seize.specs.Registrations.{registered_in};
 
@@ -41,8 +41,8 @@ fn put_many<'a>(
     ends: &'a AtomicU64,
     pass: &mut Pass,
 ) -> Result<(), Refusal>
-    requires of { IsPassFor (registered_in registration.now) pass.old × (0 < its_links (registered_in registration.now)) }
-    ensures { IsPassFor (registered_in registration.now) pass.new }
+    requires of { IsPassOf (registered_in registration.now) pass.old × (0 < its_links (registered_in registration.now)) }
+    ensures { IsPassOf (registered_in registration.now) pass.new }
 {
     for _ in 0..count {
         let block = block(registration, ends)?;
@@ -59,8 +59,8 @@ fn put_under<'a>(
     ends: &'a AtomicU64,
     pass: &mut Pass,
 ) -> Result<(), Refusal>
-    requires of { IsPassFor (guard_collector guard.now) pass.old × (0 < its_links (guard_collector guard.now)) }
-    ensures { IsPassFor (guard_collector guard.now) pass.new }
+    requires of { IsPassOf (guard_collector guard.now) pass.old × (0 < its_links (guard_collector guard.now)) }
+    ensures { IsPassOf (guard_collector guard.now) pass.new }
 {
     for _ in 0..count {
         let block = guard
@@ -81,8 +81,8 @@ fn put_by_guard<'a>(
     ends: &'a AtomicU64,
     pass: &mut Pass,
 ) -> Result<(), Refusal>
-    requires of { IsPassFor (registered_in registration.now) pass.old × (0 < its_links (registered_in registration.now)) }
-    ensures { IsPassFor (registered_in registration.now) pass.new }
+    requires of { IsPassOf (registered_in registration.now) pass.old × (0 < its_links (registered_in registration.now)) }
+    ensures { IsPassOf (registered_in registration.now) pass.new }
 {
     let guard = registration.enter(pass)?;
     let put = put_under(rt, &guard, count, ends, pass);
@@ -98,8 +98,8 @@ fn use_up<'c, 'a>(
     spent: &'a AtomicU64,
     pass: &mut Pass,
 ) -> u64
-    requires { IsPassFor (guard_collector guard.now) pass.old }
-    ensures { IsPassFor (guard_collector guard.now) pass.new }
+    requires { IsPassOf (guard_collector guard.now) pass.old }
+    ensures { IsPassOf (guard_collector guard.now) pass.new }
 {
     let collector = guard.collector();
     let mut taken: u64 = 0;
@@ -123,9 +123,9 @@ fn put_beside<'a>(
     ends: Ends<'a>,
     pass: &mut Pass,
 ) -> Result<(u64, u64, u64), Refusal>
-    requires own { IsPassFor (registered_in own.now) pass.old × (0 < its_links (registered_in own.now)) }
+    requires own { IsPassOf (registered_in own.now) pass.old × (0 < its_links (registered_in own.now)) }
     requires other { guard_collector other.now ≡ registered_in own.now }
-    ensures { IsPassFor (registered_in own.now) pass.new }
+    ensures { IsPassOf (registered_in own.now) pass.new }
 {
     let taken = use_up(rt, other, ends.spent, pass);
     let before = ended(ends.own);
@@ -144,9 +144,9 @@ fn fill<'a>(
     ends: Ends<'a>,
     pass: &mut Pass,
 ) -> Result<(u64, u64, u64), Refusal>
-    requires own { IsPassFor (registered_in own.now) pass.old × (0 < its_links (registered_in own.now)) }
+    requires own { IsPassOf (registered_in own.now) pass.old × (0 < its_links (registered_in own.now)) }
     requires other { registered_in other.now ≡ registered_in own.now }
-    ensures { IsPassFor (registered_in own.now) pass.new }
+    ensures { IsPassOf (registered_in own.now) pass.new }
 {
     put_many(rt, own, 1 + BATCH, ends.own, pass)?;
     give_sign(alloc)?;

@@ -1,7 +1,7 @@
 //! Calls that are made again where memory was refused: the second time each serves as if there had been no first one. The gate refuses
 //! them nothing; `tools/lacking seize_rows` refuses one request after another, and `tools/memory` all from a first sign on to a second one.
 ghost use Rattle.std.specs.Prelude.{◌≡◌};
-ghost use Rattle.seize.specs.Collectors.{IsPassFor, its_words};
+ghost use Rattle.seize.specs.Collectors.{IsPassOf, its_words};
 ghost use Rattle.seize.specs.Guards.{owned_collector};
 ghost use Rattle.seize.specs.Registrations.{registered_in};
 
@@ -36,8 +36,8 @@ fn register<'c>(
     collector: &'c Collector<u64>,
     pass: &mut Pass,
 ) -> Registration<'c, u64>
-    requires { IsPassFor (its_words collector.now) pass.old }
-    ensures { IsPassFor (its_words collector.now) pass.new × (registered_in result ≡ its_words collector.now) }
+    requires { IsPassOf (its_words collector.now) pass.old }
+    ensures { IsPassOf (its_words collector.now) pass.new × (registered_in result ≡ its_words collector.now) }
 {
     match collector.register(rt, pass) {
         Ok(registration) => registration,
@@ -54,8 +54,8 @@ fn enter_owned<'c>(
     collector: &'c Collector<u64>,
     pass: &mut Pass,
 ) -> OwnedGuard<'c, u64>
-    requires { IsPassFor (its_words collector.now) pass.old }
-    ensures { IsPassFor (its_words collector.now) pass.new × (owned_collector result ≡ its_words collector.now) }
+    requires { IsPassOf (its_words collector.now) pass.old }
+    ensures { IsPassOf (its_words collector.now) pass.new × (owned_collector result ≡ its_words collector.now) }
 {
     match collector.enter_owned(rt, pass) {
         Ok(guard) => guard,

@@ -1,6 +1,6 @@
 //! Worked rows: calls of one or two slots in an order that is written down, which values end at which of them, and in which order.
 ghost use Rattle.std.specs.Prelude.{◌≡◌, ◌<◌};
-ghost use Rattle.seize.specs.Collectors.{IsPassFor, its_links, its_words};
+ghost use Rattle.seize.specs.Collectors.{IsPassOf, its_links, its_words};
 ghost use Rattle.seize.specs.Guards.{guard_collector};
 
 use crate::guards::{Counting, collector, retire};
@@ -90,8 +90,8 @@ fn refresh_and_leave<'a>(
     ends: &'a AtomicU64,
     pass: &mut Pass,
 ) -> u64
-    requires { IsPassFor (guard_collector guard) pass.old }
-    ensures { IsPassFor (guard_collector guard.entry) pass.new }
+    requires { IsPassOf (guard_collector guard) pass.old }
+    ensures { IsPassOf (guard_collector guard.entry) pass.new }
 {
     let mut guard = guard;
     guard.refresh(rt, pass);
@@ -169,8 +169,8 @@ fn lose<'a>(
     told: &'a AtomicU64,
     pass: &mut Pass,
 ) -> Option<[Option<u64>; 3]>
-    requires of { IsPassFor (guard_collector guard.now) pass.old × (0 < its_links (guard_collector guard.now)) }
-    ensures { IsPassFor (guard_collector guard.now) pass.new }
+    requires of { IsPassOf (guard_collector guard.now) pass.old × (0 < its_links (guard_collector guard.now)) }
+    ensures { IsPassOf (guard_collector guard.now) pass.new }
 {
     let two = guard.owned(Digit { digit: 2, told }).ok()?;
     let three = guard.owned(Digit { digit: 3, told }).ok()?;
@@ -226,8 +226,8 @@ fn an_exchange_is_lost_to_a_swap(rt: HostRuntime) -> Result<(), Fail> {
 
 // Another pass meets this one. It says what the guard reads by the other one then.
 fn read_by_another(guard: &LocalGuard<'_, '_, u64>, pass: &mut Pass) -> Option<u64>
-    requires of { IsPassFor (guard_collector guard.now) pass.old × (0 < its_links (guard_collector guard.now)) }
-    ensures { IsPassFor (guard_collector guard.now) pass.new }
+    requires of { IsPassOf (guard_collector guard.now) pass.old × (0 < its_links (guard_collector guard.now)) }
+    ensures { IsPassOf (guard_collector guard.now) pass.new }
 {
     let mut other = guard.collector().pass();
     pass.meet(&mut other);
@@ -289,8 +289,8 @@ fn flush_each<'a>(
     count: &'a AtomicU64,
     pass: &mut Pass,
 )
-    requires { IsPassFor (guard_collector guard.now) pass.old }
-    ensures { IsPassFor (guard_collector guard.now) pass.new }
+    requires { IsPassOf (guard_collector guard.now) pass.old }
+    ensures { IsPassOf (guard_collector guard.now) pass.new }
 {
     for before in 0..MANY {
         let number = before.wrapping_add(1);

@@ -1,6 +1,6 @@
 //! A collector of values that tell their ends by digits, and guards that retire such values.
 ghost use Rattle.std.specs.Prelude.{◌<◌, IfOk};
-ghost use Rattle.seize.specs.Collectors.{IsPassFor, its_links, its_words};
+ghost use Rattle.seize.specs.Collectors.{IsPassOf, its_links, its_words};
 ghost use Rattle.seize.specs.Guards.{guard_collector};
 ghost use Rattle.seize.specs.Registrations.{registered_in};
 
@@ -29,8 +29,8 @@ pub fn defer<'a>(
     told: &'a AtomicU64,
     pass: &mut Pass,
 )
-    requires { IsPassFor (guard_collector guard.now) pass.old }
-    ensures { IsPassFor (guard_collector guard.now) pass.new }
+    requires { IsPassOf (guard_collector guard.now) pass.old }
+    ensures { IsPassOf (guard_collector guard.now) pass.new }
 {
     if let Ok(owned) = guard.owned(Digit { digit, told }) {
         guard.defer_retire(rt, pass, guard.collector().unlinked(owned));
@@ -45,8 +45,8 @@ pub fn defer_alone<'a>(
     told: &'a AtomicU64,
     pass: &mut Pass,
 )
-    requires { IsPassFor (registered_in registration.now) pass.old }
-    ensures { IsPassFor (registered_in registration.now) pass.new }
+    requires { IsPassOf (registered_in registration.now) pass.old }
+    ensures { IsPassOf (registered_in registration.now) pass.new }
 {
     if let Ok(guard) = registration.enter(pass) {
         defer(rt, &guard, digit, told, pass);

@@ -1,7 +1,7 @@
 //! Code over guards of any kind, run with a guard of each: both do the same.
 ghost use Rattle.std.specs.Prelude.{◌≡◌, ◌<◌, Option, IfOk, IfSome};
 ghost use Rattle.seize.specs.Blocks.{HoldsOnly};
-ghost use Rattle.seize.specs.Collectors.{IsPassFor, its_links, its_store, its_words};
+ghost use Rattle.seize.specs.Collectors.{IsPassOf, its_links, its_store, its_words};
 ghost use Rattle.seize.specs.Guards.{core_collector};
 ghost use Rattle.seize.specs.Links.{IsUnlinkedOf};
 ghost use Rattle.seize_test_kit.specs.declared.marked.Marked.{Marked};
@@ -37,10 +37,10 @@ fn collector<'a>(alloc: Global) -> Result<Collector<Marked<'a>>, Refusal>
 
 // Swaps this value into the link, and retires what came out.
 fn put<'a, G: Guard<Marked<'a>>, W: Wait>(guard: &G, value: Marked<'a>, rt: &W, pass: &mut Pass)
-    requires of { IsPassFor (G.its_collector guard.now) pass.old × (0 < its_links (G.its_collector guard.now)) }
+    requires of { IsPassOf (G.its_collector guard.now) pass.old × (0 < its_links (G.its_collector guard.now)) }
     requires fits { (x : Marked) → HoldsOnly G.Reclaimer.owners (its_store (G.its_collector guard.now)) x }
     requires rule { (x y : Option Marked) → G.Reclaimer.keeps 0 x y }
-    ensures { IsPassFor (G.its_collector guard.now) pass.new }
+    ensures { IsPassOf (G.its_collector guard.now) pass.new }
 {
     if let Ok(block) = guard.owned(value) {
         if let Some(old) = guard.core().swap(0, Some(block), pass) {
@@ -54,8 +54,8 @@ fn read<'a, R: Reclaim<Marked<'a>>>(
     core: &GuardCore<'_, Marked<'a>, R>,
     pass: &mut Pass,
 ) -> Option<u64>
-    requires of { IsPassFor (core_collector core.now) pass.old × (0 < its_links (core_collector core.now)) }
-    ensures { IsPassFor (core_collector core.now) pass.new }
+    requires of { IsPassOf (core_collector core.now) pass.old × (0 < its_links (core_collector core.now)) }
+    ensures { IsPassOf (core_collector core.now) pass.new }
 {
     core.protect(0, pass).map(|shared| shared.value)
 }
@@ -66,10 +66,10 @@ fn exchange<'a, 'c, R: Reclaim<Marked<'a>>>(
     value: Marked<'a>,
     pass: &mut Pass,
 ) -> Option<Unlinked<'c, Marked<'a>>>
-    requires of { IsPassFor (core_collector core.now) pass.old × (0 < its_links (core_collector core.now)) }
+    requires of { IsPassOf (core_collector core.now) pass.old × (0 < its_links (core_collector core.now)) }
     requires fits { (x : Marked) → HoldsOnly R.owners (its_store (core_collector core.now)) x }
     requires rule { (x y : Option Marked) → R.keeps 0 x y }
-    ensures pass { IsPassFor (core_collector core.now) pass.new }
+    ensures pass { IsPassOf (core_collector core.now) pass.new }
     ensures of { IfSome result (IsUnlinkedOf (core_collector core.now)) }
 {
     let new = core.owned(value).ok()?;
@@ -92,10 +92,10 @@ fn exchange_and_retire<'a, G: Guard<Marked<'a>>, W: Wait>(
     rt: &W,
     pass: &mut Pass,
 ) -> Option<u64>
-    requires of { IsPassFor (G.its_collector guard.now) pass.old × (0 < its_links (G.its_collector guard.now)) }
+    requires of { IsPassOf (G.its_collector guard.now) pass.old × (0 < its_links (G.its_collector guard.now)) }
     requires fits { (x : Marked) → HoldsOnly G.Reclaimer.owners (its_store (G.its_collector guard.now)) x }
     requires rule { (x y : Option Marked) → G.Reclaimer.keeps 0 x y }
-    ensures { IsPassFor (G.its_collector guard.now) pass.new }
+    ensures { IsPassOf (G.its_collector guard.now) pass.new }
 {
     let old = exchange(guard.core(), value, pass)?;
     let out = old.value;
@@ -110,10 +110,10 @@ fn make_calls<'a, G: Guard<Marked<'a>>, W: Wait>(
     rt: &W,
     pass: &mut Pass,
 ) -> Came
-    requires of { IsPassFor (G.its_collector guard.old) pass.old × (0 < its_links (G.its_collector guard.old)) }
+    requires of { IsPassOf (G.its_collector guard.old) pass.old × (0 < its_links (G.its_collector guard.old)) }
     requires fits { (x : Marked) → HoldsOnly G.Reclaimer.owners (its_store (G.its_collector guard.old)) x }
     requires rule { (x y : Option Marked) → G.Reclaimer.keeps 0 x y }
-    ensures pass { IsPassFor (G.its_collector guard.new) pass.new }
+    ensures pass { IsPassOf (G.its_collector guard.new) pass.new }
     ensures same { G.its_collector guard.new ≡ G.its_collector guard.old }
 {
     put(guard, Marked { value: 0, marks }, rt, pass);

@@ -1,6 +1,6 @@
 //! Threads that add to one number at once: each exchanges the block that it read for one with the next number, until it wins.
 ghost use Rattle.std.specs.Prelude.{◌≡◌, ◌<◌, IfOk, IfSome};
-ghost use Rattle.seize.specs.Collectors.{IsBlockOf, IsPassFor, its_links, its_words};
+ghost use Rattle.seize.specs.Collectors.{IsBlockOf, IsPassOf, its_links, its_words};
 ghost use Rattle.seize.specs.Guards.{guard_collector};
 ghost use Rattle.seize.specs.Registrations.{registered_in};
 
@@ -26,9 +26,9 @@ fn exchange<'a>(
     block: Owned<Sum<'a>>,
     pass: &mut Pass,
 ) -> (Tried, Option<Owned<Sum<'a>>>)
-    requires of { IsPassFor (guard_collector guard.now) pass.old × (0 < its_links (guard_collector guard.now)) }
+    requires of { IsPassOf (guard_collector guard.now) pass.old × (0 < its_links (guard_collector guard.now)) }
     requires block { IsBlockOf (guard_collector guard.now) block }
-    ensures pass { IsPassFor (guard_collector guard.now) pass.new }
+    ensures pass { IsPassOf (guard_collector guard.now) pass.new }
     ensures back { IfSome result.1 (λ owned. IsBlockOf (guard_collector guard.now) owned) }
 {
     let mut block = block;
@@ -67,8 +67,8 @@ fn add<'a>(
     mark: Marked<'a>,
     pass: &mut Pass,
 ) -> Result<Tried, Refusal>
-    requires of { IsPassFor (guard_collector guard.now) pass.old × (0 < its_links (guard_collector guard.now)) }
-    ensures { IsPassFor (guard_collector guard.now) pass.new }
+    requires of { IsPassOf (guard_collector guard.now) pass.old × (0 < its_links (guard_collector guard.now)) }
+    ensures { IsPassOf (guard_collector guard.now) pass.new }
 {
     let mut left = match guard.owned(Sum { number: 0, mark }) {
         Ok(block) => Some(block),
@@ -94,8 +94,8 @@ fn add_often<'a>(
     marks: &'a [AtomicU64],
     pass: &mut Pass,
 ) -> Result<Tried, Refusal>
-    requires of { IsPassFor (registered_in registration.now) pass.old × (0 < its_links (registered_in registration.now)) }
-    ensures { IsPassFor (registered_in registration.now) pass.new }
+    requires of { IsPassOf (registered_in registration.now) pass.old × (0 < its_links (registered_in registration.now)) }
+    ensures { IsPassOf (registered_in registration.now) pass.new }
 {
     let mut all = Tried::none();
     for n in 0..TURNS {

@@ -1,6 +1,6 @@
 //! Threads that make an owned guard of their own for every turn.
 ghost use Rattle.std.specs.Prelude.{◌≡◌, ◌<◌, IfOk};
-ghost use Rattle.seize.specs.Collectors.{IsPassFor, its_links, its_words};
+ghost use Rattle.seize.specs.Collectors.{IsPassOf, its_links, its_words};
 ghost use Rattle.seize.specs.Guards.{owned_collector};
 
 use seize::{Collector, Guard, IdSource, OwnedGuard, Pass, Refusal};
@@ -52,8 +52,8 @@ pub(crate) fn replace<'a>(
     value: Marked<'a>,
     pass: &mut Pass,
 ) -> Result<u64, Refusal>
-    requires of { IsPassFor (owned_collector guard.now) pass.old × (0 < its_links (owned_collector guard.now)) }
-    ensures { IsPassFor (owned_collector guard.now) pass.new }
+    requires of { IsPassOf (owned_collector guard.now) pass.old × (0 < its_links (owned_collector guard.now)) }
+    ensures { IsPassOf (owned_collector guard.now) pass.new }
 {
     let block = match guard.owned(value) {
         Ok(block) => block,
@@ -75,8 +75,8 @@ fn turn<'a>(
     value: Marked<'a>,
     pass: &mut Pass,
 ) -> Result<Seen, Refusal>
-    requires of { IsPassFor (its_words collector.now) pass.old × (0 < its_links (its_words collector.now)) }
-    ensures { IsPassFor (its_words collector.now) pass.new }
+    requires of { IsPassOf (its_words collector.now) pass.old × (0 < its_links (its_words collector.now)) }
+    ensures { IsPassOf (its_words collector.now) pass.new }
 {
     let marks = value.marks;
     let guard = collector.enter_owned(rt, pass)?;

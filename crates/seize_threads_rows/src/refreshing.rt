@@ -1,6 +1,6 @@
 //! Readers that hold one guard each and refresh it, while another thread swaps values through several links and retires them.
 ghost use Rattle.std.specs.Prelude.{◌≡◌, ◌<◌, IfOk};
-ghost use Rattle.seize.specs.Collectors.{IsPassFor, its_links, its_words};
+ghost use Rattle.seize.specs.Collectors.{IsPassOf, its_links, its_words};
 ghost use Rattle.seize.specs.Guards.{guard_collector};
 ghost use Rattle.seize.specs.Registrations.{registered_in};
 
@@ -78,8 +78,8 @@ fn read_all<'a>(
     marks: &'a [AtomicU64],
     pass: &mut Pass,
 ) -> u64
-    requires of { IsPassFor (guard_collector guard.now) pass.old × (its_links (guard_collector guard.now) ≡ 3) }
-    ensures { IsPassFor (guard_collector guard.now) pass.new }
+    requires of { IsPassOf (guard_collector guard.now) pass.old × (its_links (guard_collector guard.now) ≡ 3) }
+    ensures { IsPassOf (guard_collector guard.now) pass.new }
 {
     let one = guard.protect(0, pass);
     let two = guard.protect(1, pass);
@@ -101,8 +101,8 @@ fn read_until_over<'a>(
     marks: &'a [AtomicU64],
     pass: &mut Pass,
 ) -> u64
-    requires of { IsPassFor (guard_collector guard.old) pass.old × (its_links (guard_collector guard.old) ≡ 3) }
-    ensures { IsPassFor (guard_collector guard.new) pass.new × (guard_collector guard.new ≡ guard_collector guard.old) }
+    requires of { IsPassOf (guard_collector guard.old) pass.old × (its_links (guard_collector guard.old) ≡ 3) }
+    ensures { IsPassOf (guard_collector guard.new) pass.new × (guard_collector guard.new ≡ guard_collector guard.old) }
 {
     let mut early: u64 = 0;
     for _ in 0..ROUNDS {
@@ -124,8 +124,8 @@ fn stay<'a>(
     marks: &'a [AtomicU64],
     pass: &mut Pass,
 ) -> Result<Saw, Refusal>
-    requires of { IsPassFor (registered_in registration.now) pass.old × (its_links (registered_in registration.now) ≡ 3) }
-    ensures { IsPassFor (registered_in registration.now) pass.new }
+    requires of { IsPassOf (registered_in registration.now) pass.old × (its_links (registered_in registration.now) ≡ 3) }
+    ensures { IsPassOf (registered_in registration.now) pass.new }
 {
     let mut guard = registration.enter(pass)?;
     set(&signs.come);
@@ -160,8 +160,8 @@ fn replace_all<'a>(
     marks: &'a [AtomicU64],
     pass: &mut Pass,
 ) -> Result<u64, Refusal>
-    requires of { IsPassFor (registered_in registration.now) pass.old × (its_links (registered_in registration.now) ≡ 3) }
-    ensures { IsPassFor (registered_in registration.now) pass.new }
+    requires of { IsPassOf (registered_in registration.now) pass.old × (its_links (registered_in registration.now) ≡ 3) }
+    ensures { IsPassOf (registered_in registration.now) pass.new }
 {
     let mut retired: u64 = 0;
     for value in 0..TURNS {

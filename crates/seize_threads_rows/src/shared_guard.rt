@@ -1,6 +1,6 @@
 //! Threads that share one owned guard, and add to one number by exchanges with it.
 ghost use Rattle.std.specs.Prelude.{◌≡◌, ◌<◌, IfSome};
-ghost use Rattle.seize.specs.Collectors.{IsBlockOf, IsPassFor, its_links};
+ghost use Rattle.seize.specs.Collectors.{IsBlockOf, IsPassOf, its_links};
 ghost use Rattle.seize.specs.Guards.{owned_collector};
 
 use crate::sums::{Sum, Tried, collector, put};
@@ -25,9 +25,9 @@ fn exchange<'a>(
     block: Owned<Sum<'a>>,
     pass: &mut Pass,
 ) -> (Tried, Option<Owned<Sum<'a>>>)
-    requires of { IsPassFor (owned_collector guard.now) pass.old × (0 < its_links (owned_collector guard.now)) }
+    requires of { IsPassOf (owned_collector guard.now) pass.old × (0 < its_links (owned_collector guard.now)) }
     requires block { IsBlockOf (owned_collector guard.now) block }
-    ensures pass { IsPassFor (owned_collector guard.now) pass.new }
+    ensures pass { IsPassOf (owned_collector guard.now) pass.new }
     ensures back { IfSome result.1 (λ owned. IsBlockOf (owned_collector guard.now) owned) }
 {
     let mut block = block;
@@ -61,8 +61,8 @@ fn add<'a>(
     mark: Marked<'a>,
     pass: &mut Pass,
 ) -> Result<Tried, Refusal>
-    requires of { IsPassFor (owned_collector guard.now) pass.old × (0 < its_links (owned_collector guard.now)) }
-    ensures { IsPassFor (owned_collector guard.now) pass.new }
+    requires of { IsPassOf (owned_collector guard.now) pass.old × (0 < its_links (owned_collector guard.now)) }
+    ensures { IsPassOf (owned_collector guard.now) pass.new }
 {
     let mut left = match guard.owned(Sum { number: 0, mark }) {
         Ok(block) => Some(block),

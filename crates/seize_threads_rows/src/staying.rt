@@ -1,6 +1,6 @@
 //! A reader that stays under its guard while other threads retire very many values.
 ghost use Rattle.std.specs.Prelude.{◌≡◌, ◌<◌, IfOk};
-ghost use Rattle.seize.specs.Collectors.{IsPassFor, its_links, its_words};
+ghost use Rattle.seize.specs.Collectors.{IsPassOf, its_links, its_words};
 ghost use Rattle.seize.specs.Guards.{guard_collector};
 ghost use Rattle.seize.specs.Registrations.{registered_in};
 
@@ -62,8 +62,8 @@ fn read_long<'a, R: Threads + Wait + Sync>(
     marks: &'a [AtomicU64],
     pass: &mut Pass,
 ) -> Result<Saw, Refusal>
-    requires of { IsPassFor (guard_collector guard.now) pass.old × (0 < its_links (guard_collector guard.now)) }
-    ensures { IsPassFor (guard_collector guard.now) pass.new }
+    requires of { IsPassOf (guard_collector guard.now) pass.old × (0 < its_links (guard_collector guard.now)) }
+    ensures { IsPassOf (guard_collector guard.now) pass.new }
 {
     replace(guard, 0, Marked { value: 0, marks }, rt, pass)?;
     let found = guard.protect(0, pass);
@@ -82,8 +82,8 @@ fn stay<'a, R: Threads + Wait + Sync>(
     marks: &'a [AtomicU64],
     pass: &mut Pass,
 ) -> Result<Saw, Refusal>
-    requires of { IsPassFor (registered_in registration.now) pass.old × (0 < its_links (registered_in registration.now)) }
-    ensures { IsPassFor (registered_in registration.now) pass.new }
+    requires of { IsPassOf (registered_in registration.now) pass.old × (0 < its_links (registered_in registration.now)) }
+    ensures { IsPassOf (registered_in registration.now) pass.new }
 {
     let guard = registration.enter(pass)?;
     let saw = read_long(rt, &guard, marks, pass);

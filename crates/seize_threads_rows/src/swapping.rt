@@ -1,6 +1,6 @@
 //! Readers on four threads, while a fifth one swaps a thousand values through the link that they read.
 ghost use Rattle.std.specs.Prelude.{◌<◌};
-ghost use Rattle.seize.specs.Collectors.{IsPassFor, its_links, its_words};
+ghost use Rattle.seize.specs.Collectors.{IsPassOf, its_links, its_words};
 
 use crate::own_guards::{collector, replace};
 use seize::{Collector, Pass, Refusal};
@@ -21,8 +21,8 @@ fn look<'a>(
     marks: &'a [AtomicU64],
     pass: &mut Pass,
 ) -> Result<u64, Refusal>
-    requires of { IsPassFor (its_words collector.now) pass.old × (0 < its_links (its_words collector.now)) }
-    ensures { IsPassFor (its_words collector.now) pass.new }
+    requires of { IsPassOf (its_words collector.now) pass.old × (0 < its_links (its_words collector.now)) }
+    ensures { IsPassOf (its_words collector.now) pass.new }
 {
     let guard = collector.enter_owned(rt, pass)?;
     let early = match &guard.protect(0, pass) {
@@ -96,8 +96,8 @@ fn put<'a>(
     value: Marked<'a>,
     pass: &mut Pass,
 ) -> Result<u64, Refusal>
-    requires of { IsPassFor (its_words collector.now) pass.old × (0 < its_links (its_words collector.now)) }
-    ensures { IsPassFor (its_words collector.now) pass.new }
+    requires of { IsPassOf (its_words collector.now) pass.old × (0 < its_links (its_words collector.now)) }
+    ensures { IsPassOf (its_words collector.now) pass.new }
 {
     let guard = collector.enter_owned(rt, pass)?;
     let retired = replace(rt, &guard, value, pass);

@@ -1,7 +1,7 @@
 //! Reclaimers that run as a number is taken, or goes back: the lock of the numbers is free then, so another thread registers and ends
 //! meanwhile.
 ghost use Rattle.std.proofs.Common.{lit<};
-ghost use Rattle.seize.specs.Collectors.{IsPassFor};
+ghost use Rattle.seize.specs.Collectors.{IsPassOf};
 ghost use Rattle.seize.specs.Registrations.{registered_in};
 
 use crate::signs::{set, wait_for};
@@ -72,8 +72,8 @@ fn collector<'a>(alloc: Global, signs: &'a Signs) -> Result<Numbers<'a>, Refusal
 
 // The slot retires a value.
 fn retire<'a>(rt: &impl Wait, registration: &Registration<'_, u64, Waiting<'a>>, pass: &mut Pass)
-    requires { IsPassFor (registered_in registration.now) pass.old }
-    ensures { IsPassFor (registered_in registration.now) pass.new }
+    requires { IsPassOf (registered_in registration.now) pass.old }
+    ensures { IsPassOf (registered_in registration.now) pass.new }
 {
     let collector = registration.collector();
     if let Ok(block) = collector.owned(7) {

@@ -1,6 +1,6 @@
 //! Two threads that take turns: what one of them has found does not end while its guard stands, though the other has retired it.
 ghost use Rattle.std.specs.Prelude.{◌≡◌, ◌<◌, IfOk};
-ghost use Rattle.seize.specs.Collectors.{IsPassFor, its_links, its_words};
+ghost use Rattle.seize.specs.Collectors.{IsPassOf, its_links, its_words};
 ghost use Rattle.seize.specs.Guards.{guard_collector};
 ghost use Rattle.seize.specs.Registrations.{registered_in};
 
@@ -65,8 +65,8 @@ fn find<'a>(
     marks: &'a [AtomicU64],
     pass: &mut Pass,
 ) -> Saw
-    requires of { IsPassFor (guard_collector guard.now) pass.old × (0 < its_links (guard_collector guard.now)) }
-    ensures { IsPassFor (guard_collector guard.now) pass.new }
+    requires of { IsPassOf (guard_collector guard.now) pass.old × (0 < its_links (guard_collector guard.now)) }
+    ensures { IsPassOf (guard_collector guard.now) pass.new }
 {
     let found = guard.protect(0, pass);
     let first = found.as_ref().map(|shared| shared.value);
@@ -88,8 +88,8 @@ fn stay<'a>(
     marks: &'a [AtomicU64],
     pass: &mut Pass,
 ) -> Result<Saw, Refusal>
-    requires of { IsPassFor (registered_in registration.now) pass.old × (0 < its_links (registered_in registration.now)) }
-    ensures { IsPassFor (registered_in registration.now) pass.new }
+    requires of { IsPassOf (registered_in registration.now) pass.old × (0 < its_links (registered_in registration.now)) }
+    ensures { IsPassOf (registered_in registration.now) pass.new }
 {
     wait_for(sign, PUT);
     let guard = registration.enter(pass)?;
@@ -125,8 +125,8 @@ fn replace<'a>(
     marks: &'a [AtomicU64],
     pass: &mut Pass,
 ) -> Result<u64, Refusal>
-    requires of { IsPassFor (registered_in registration.now) pass.old × (0 < its_links (registered_in registration.now)) }
-    ensures { IsPassFor (registered_in registration.now) pass.new }
+    requires of { IsPassOf (registered_in registration.now) pass.old × (0 < its_links (registered_in registration.now)) }
+    ensures { IsPassOf (registered_in registration.now) pass.new }
 {
     let mut retired = turn(registration, 0, Marked { value: 0, marks }, rt, pass)?.retired;
     set(sign);

@@ -1,6 +1,6 @@
 //! Turns of a thread at a collector: it enters, reads a link, swaps a new block in, retires what came out, and leaves.
 ghost use Rattle.std.specs.Prelude.{◌≡◌, ◌<◌, IfOk};
-ghost use Rattle.seize.specs.Collectors.{IsPassFor, its_links, its_words};
+ghost use Rattle.seize.specs.Collectors.{IsPassOf, its_links, its_words};
 ghost use Rattle.seize.specs.Guards.{guard_collector};
 ghost use Rattle.seize.specs.Registrations.{registered_in};
 
@@ -39,8 +39,8 @@ pub fn replace<'c, 'a, W: Wait>(
     rt: &W,
     pass: &mut Pass,
 ) -> Result<u64, Refusal>
-    requires of { IsPassFor (guard_collector guard.now) pass.old × (link < its_links (guard_collector guard.now)) }
-    ensures pass { IsPassFor (guard_collector guard.now) pass.new }
+    requires of { IsPassOf (guard_collector guard.now) pass.old × (link < its_links (guard_collector guard.now)) }
+    ensures pass { IsPassOf (guard_collector guard.now) pass.new }
 {
     let block = match guard.collector().owned(value) {
         Ok(block) => block,
@@ -64,8 +64,8 @@ pub fn turn<'c, 'a, W: Wait>(
     rt: &W,
     pass: &mut Pass,
 ) -> Result<Seen, Refusal>
-    requires of { IsPassFor (registered_in registration.now) pass.old × (link < its_links (registered_in registration.now)) }
-    ensures pass { IsPassFor (registered_in registration.now) pass.new }
+    requires of { IsPassOf (registered_in registration.now) pass.old × (link < its_links (registered_in registration.now)) }
+    ensures pass { IsPassOf (registered_in registration.now) pass.new }
 {
     let marks = value.marks;
     let guard = registration.enter(pass)?;
@@ -110,8 +110,8 @@ fn work_by<'c, 'a, W: Wait>(
     rt: &W,
     pass: &mut Pass,
 ) -> Result<Seen, Refusal>
-    requires of { IsPassFor (registered_in registration.now) pass.old × (0 < its_links (registered_in registration.now)) }
-    ensures pass { IsPassFor (registered_in registration.now) pass.new }
+    requires of { IsPassOf (registered_in registration.now) pass.old × (0 < its_links (registered_in registration.now)) }
+    ensures pass { IsPassOf (registered_in registration.now) pass.new }
 {
     let mut all = Seen {
         found: 0,

@@ -1,6 +1,6 @@
 //! Threads that all read one block, and exchange it at once: one of them wins.
 ghost use Rattle.std.specs.Prelude.{◌≡◌, ◌<◌};
-ghost use Rattle.seize.specs.Collectors.{IsPassFor, its_links, its_words};
+ghost use Rattle.seize.specs.Collectors.{IsPassOf, its_links, its_words};
 ghost use Rattle.seize.specs.Guards.{guard_collector};
 ghost use Rattle.seize.specs.Registrations.{registered_in};
 
@@ -30,8 +30,8 @@ fn exchange<'a>(
     come: &AtomicU64,
     pass: &mut Pass,
 ) -> Tried
-    requires of { IsPassFor (guard_collector guard.now) pass.old × (0 < its_links (guard_collector guard.now)) }
-    ensures { IsPassFor (guard_collector guard.now) pass.new }
+    requires of { IsPassOf (guard_collector guard.now) pass.old × (0 < its_links (guard_collector guard.now)) }
+    ensures { IsPassOf (guard_collector guard.now) pass.new }
 {
     let next = round.wrapping_add(1);
     let found = guard.protect(0, pass);
@@ -65,8 +65,8 @@ fn play<'a>(
     come: &AtomicU64,
     pass: &mut Pass,
 ) -> Result<Tried, Refusal>
-    requires of { IsPassFor (registered_in registration.now) pass.old × (0 < its_links (registered_in registration.now)) }
-    ensures { IsPassFor (registered_in registration.now) pass.new }
+    requires of { IsPassOf (registered_in registration.now) pass.old × (0 < its_links (registered_in registration.now)) }
+    ensures { IsPassOf (registered_in registration.now) pass.new }
 {
     let guard = registration.enter(pass)?;
     let tried = exchange(rt, &guard, round, mark, come, pass);
@@ -88,8 +88,8 @@ fn play_all<'a>(
     marks: &'a [AtomicU64],
     pass: &mut Pass,
 ) -> Result<Tried, Refusal>
-    requires of { IsPassFor (registered_in registration.now) pass.old × (0 < its_links (registered_in registration.now)) }
-    ensures { IsPassFor (registered_in registration.now) pass.new }
+    requires of { IsPassOf (registered_in registration.now) pass.old × (0 < its_links (registered_in registration.now)) }
+    ensures { IsPassOf (registered_in registration.now) pass.new }
 {
     let mut all = Tried::none();
     for round in 0..ROUNDS {

@@ -1,7 +1,7 @@
 //! Steps that calls on links share: a copy of what a link holds, a block to go in, and the retirement of what came out.
 ghost use Rattle.std.specs.Prelude.{◌≡◌, ◌⊎◌, ◌<◌, ℕ, List, Option, IfOk, IfSome};
 ghost use Rattle.seize.specs.Blocks.{content};
-ghost use Rattle.seize.specs.Collectors.{IsBlockOf, IsPassFor, its_links};
+ghost use Rattle.seize.specs.Collectors.{IsBlockOf, IsPassOf, its_links};
 ghost use Rattle.seize.specs.Guards.{core_collector, core_slot, guard_collector};
 ghost use Rattle.seize.specs.Links.{IsUnlinkedOf};
 ghost use Rattle.seize.specs.Machine.Event.{Event, ReadLink};
@@ -19,8 +19,8 @@ pub fn content_at<T: Copy + Drop, R: Reclaim<T>>(
     link: usize,
     pass: &mut Pass,
 ) -> Option<T>
-    requires of { IsPassFor (core_collector core.now) pass.old × (link < its_links (core_collector core.now)) }
-    ensures pass { IsPassFor (core_collector core.now) pass.new }
+    requires of { IsPassOf (core_collector core.now) pass.old × (link < its_links (core_collector core.now)) }
+    ensures pass { IsPassOf (core_collector core.now) pass.new }
     ensures read { (held : Option ℕ) × MakesOne pass.old pass.new (ReadLink (core_slot core.now) link) (Link held)
         × Says T.row.coded.code held result }
 {
@@ -48,8 +48,8 @@ pub fn retire_any<T: Drop, R: Reclaim<T>, W: Wait>(
     rt: &W,
     pass: &mut Pass,
 )
-    requires of { IsPassFor (guard_collector guard.now) pass.old × IfSome out (IsUnlinkedOf (guard_collector guard.now)) }
-    ensures pass { IsPassFor (guard_collector guard.now) pass.new }
+    requires of { IsPassOf (guard_collector guard.now) pass.old × IfSome out (IsUnlinkedOf (guard_collector guard.now)) }
+    ensures pass { IsPassOf (guard_collector guard.now) pass.new }
     ensures made { (pass.new ≡ pass.old) ⊎ ((events : List (Event × Answer)) × Makes pass.old pass.new events) }
 {
     if let Some(old) = out {

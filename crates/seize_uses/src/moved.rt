@@ -3,7 +3,7 @@
 //! moment: at the second read the mark is there still, whatever other threads did in between.
 ghost use Rattle.std.proofs.Common.{lit<};
 ghost use Rattle.std.specs.Prelude.{◌≡◌, ◌<◌, ◌↔◌, Option, IsTrue};
-ghost use Rattle.seize.specs.Collectors.{IsPassFor, its_links};
+ghost use Rattle.seize.specs.Collectors.{IsPassOf, its_links};
 ghost use Rattle.seize.specs.Exchanges.{current_value};
 ghost use Rattle.seize.specs.Guards.{core_collector, guard_collector};
 ghost use Rattle.seize.specs.Machine.History.{Moment};
@@ -45,9 +45,9 @@ pub fn find(
     new: usize,
     pass: &mut Pass,
 ) -> Option<u64>
-    requires of { IsPassFor (core_collector core.now) pass.old × (old < its_links (core_collector core.now))
+    requires of { IsPassOf (core_collector core.now) pass.old × (old < its_links (core_collector core.now))
         × (new < its_links (core_collector core.now)) }
-    ensures pass { IsPassFor (core_collector core.now) pass.new }
+    ensures pass { IsPassOf (core_collector core.now) pass.new }
     ensures found { (m : Moment) × StandsSince pass.old pass.new m × ShowsNumber old new m.before result }
 {
     let collector = core.collector();
@@ -87,8 +87,8 @@ pub fn put<W: Wait>(
     rt: &W,
     pass: &mut Pass,
 ) -> Result<bool, Refusal>
-    requires of { IsPassFor (guard_collector guard.now) pass.old × (link < its_links (guard_collector guard.now)) }
-    ensures pass { IsPassFor (guard_collector guard.now) pass.new }
+    requires of { IsPassOf (guard_collector guard.now) pass.old × (link < its_links (guard_collector guard.now)) }
+    ensures pass { IsPassOf (guard_collector guard.now) pass.new }
 {
     let found = guard.protect(link, pass);
     let current = found.as_ref();
@@ -124,8 +124,8 @@ pub fn mark<W: Wait>(
     rt: &W,
     pass: &mut Pass,
 ) -> Result<(), Refusal>
-    requires of { IsPassFor (guard_collector guard.now) pass.old × (link < its_links (guard_collector guard.now)) }
-    ensures pass { IsPassFor (guard_collector guard.now) pass.new }
+    requires of { IsPassOf (guard_collector guard.now) pass.old × (link < its_links (guard_collector guard.now)) }
+    ensures pass { IsPassOf (guard_collector guard.now) pass.new }
 {
     let block = block_of(guard, Place::Moved)?;
     let out = guard.swap(link, Some(block), pass);

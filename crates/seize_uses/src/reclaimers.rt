@@ -1,7 +1,7 @@
 //! A reclaimer of one's own, which counts what ends, and a caller who says of which kind a value is.
 ghost use Rattle.std.proofs.Common.{lit<};
 ghost use Rattle.std.specs.Prelude.{◌≡◌, ◌<◌, ℕ, IfOk, true};
-ghost use Rattle.seize.specs.Collectors.{IsBlockOf, IsPassFor, its_links, its_words};
+ghost use Rattle.seize.specs.Collectors.{IsBlockOf, IsPassOf, its_links, its_words};
 ghost use Rattle.seize.specs.Guards.{guard_collector};
 ghost use Rattle.seize.specs.Laws.{moments_seen};
 ghost use Rattle.seize.specs.Machine.History.{Retired};
@@ -74,9 +74,9 @@ pub fn put<W: Wait>(
     rt: &W,
     pass: &mut Pass,
 )
-    requires of { IsPassFor (guard_collector guard.now) pass.old × (0 < its_links (guard_collector guard.now)) }
+    requires of { IsPassOf (guard_collector guard.now) pass.old × (0 < its_links (guard_collector guard.now)) }
     requires block { IsBlockOf (guard_collector guard.now) block }
-    ensures pass { IsPassFor (guard_collector guard.now) pass.new }
+    ensures pass { IsPassOf (guard_collector guard.now) pass.new }
 {
     if let Some(old) = guard.swap(0, Some(block), pass) {
         guard.defer_retire(rt, pass, old);
@@ -89,8 +89,8 @@ pub fn remove<W: Wait>(
     rt: &W,
     pass: &mut Pass,
 ) -> bool
-    requires of { IsPassFor (guard_collector guard.now) pass.old × (0 < its_links (guard_collector guard.now)) }
-    ensures pass { IsPassFor (guard_collector guard.now) pass.new }
+    requires of { IsPassOf (guard_collector guard.now) pass.old × (0 < its_links (guard_collector guard.now)) }
+    ensures pass { IsPassOf (guard_collector guard.now) pass.new }
     ensures removed { result ≡ true → (v : ℕ) × IsOfKind v 1 pass.new × ((q : ℕ) × Retired (moments_seen pass.new) v q) }
 {
     let Some(old) = guard.swap(0, None, pass) else {

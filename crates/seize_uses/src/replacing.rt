@@ -3,7 +3,7 @@ ghost use base.Stored.{gnum};
 ghost use Rattle.std.specs.Prelude.{◌≡◌, ◌<◌, ℕ, Option, None, Some, [], ◌∷◌, IfOk, IfSome};
 ghost use Rattle.seize.specs.Blocks.{HasContent, IsNamed, content};
 ghost use Rattle.seize.specs.Links.{IsUnlinkedOf, unlinked_name};
-ghost use Rattle.seize.specs.Collectors.{BelongsTo, IsBlockOf, IsPassFor, its_links};
+ghost use Rattle.seize.specs.Collectors.{BelongsTo, IsBlockOf, IsPassOf, its_links};
 ghost use Rattle.seize.specs.Guards.{core_collector, core_slot};
 ghost use Rattle.seize.specs.Machine.Event.{ExchangeLink, ReadLink};
 ghost use Rattle.seize.specs.Makes.{Makes, MakesOne};
@@ -22,10 +22,10 @@ pub fn replace_read<'c, R: Reclaim<u64>>(
     new: Owned<u64>,
     pass: &mut Pass,
 ) -> Result<Option<Unlinked<'c, u64>>, Option<Owned<u64>>>
-    requires of { IsPassFor (core_collector core.now) pass.old × (0 < its_links (core_collector core.now)) }
+    requires of { IsPassOf (core_collector core.now) pass.old × (0 < its_links (core_collector core.now)) }
     requires value { BelongsTo R.owners (core_collector core.now) new }
     requires rule { (x : ℕ) → R.keeps 0 (Some x) (Some (content new)) }
-    ensures pass { IsPassFor (core_collector core.now) pass.new }
+    ensures pass { IsPassOf (core_collector core.now) pass.new }
     ensures of { IfOk result (λ out. IfSome out (IsUnlinkedOf (core_collector core.now))) }
     ensures took { IfOk result (λ _. (held : Option ℕ) × (v : Option ℕ) × IsNamed gnum (Some new) v × Makes pass.old pass.new
         ((ReadLink (core_slot core.now) 0, Link held) ∷ (ExchangeLink (core_slot core.now) 0 (Compare held v), Link held) ∷ [])) }
@@ -47,10 +47,10 @@ pub fn take_found<'c, R: Reclaim<u64>>(
     seen: &mut Pass,
     pass: &mut Pass,
 ) -> Option<(u64, Unlinked<'c, u64>)>
-    requires finder { IsPassFor (core_collector finder.now) seen.old × (0 < its_links (core_collector finder.now)) }
-    requires taker { IsPassFor (core_collector taker.now) pass.old × (core_collector taker.now ≡ core_collector finder.now) }
+    requires finder { IsPassOf (core_collector finder.now) seen.old × (0 < its_links (core_collector finder.now)) }
+    requires taker { IsPassOf (core_collector taker.now) pass.old × (core_collector taker.now ≡ core_collector finder.now) }
     requires rule { (x : ℕ) → R.keeps 0 (Some x) None }
-    ensures passes { IsPassFor (core_collector finder.now) seen.new × IsPassFor (core_collector taker.now) pass.new }
+    ensures passes { IsPassOf (core_collector finder.now) seen.new × IsPassOf (core_collector taker.now) pass.new }
     ensures of { IfSome result (λ taken. IsUnlinkedOf (core_collector taker.now) taken.1) }
     ensures took { IfSome result (λ taken. let v = unlinked_name taken.1 in HasContent gnum v taken.0
         × MakesOne seen.old seen.new (ReadLink (core_slot finder.now) 0) (Link (Some v))
@@ -71,9 +71,9 @@ pub fn exchange<W: Wait>(
     rt: &W,
     pass: &mut Pass,
 ) -> Result<bool, Refusal>
-    requires pass { IsPassFor (registered_in registration.now) pass.old }
+    requires pass { IsPassOf (registered_in registration.now) pass.old }
     requires link { 0 < its_links (registered_in registration.now) }
-    ensures pass { IsPassFor (registered_in registration.now) pass.new }
+    ensures pass { IsPassOf (registered_in registration.now) pass.new }
 {
     let block = registration.owned(value).map_err(|(refusal, _)| refusal)?;
     let guard = registration.enter(pass)?;
@@ -101,9 +101,9 @@ pub fn add<W: Wait>(
     rt: &W,
     pass: &mut Pass,
 ) -> Result<bool, Refusal>
-    requires pass { IsPassFor (registered_in registration.now) pass.old }
+    requires pass { IsPassOf (registered_in registration.now) pass.old }
     requires link { 0 < its_links (registered_in registration.now) }
-    ensures pass { IsPassFor (registered_in registration.now) pass.new }
+    ensures pass { IsPassOf (registered_in registration.now) pass.new }
 {
     let block = registration.owned(more).map_err(|(refusal, _)| refusal)?;
     let guard = registration.enter(pass)?;
@@ -126,9 +126,9 @@ fn add_under<'c>(
     block: Owned<u64>,
     pass: &mut Pass,
 ) -> Option<Unlinked<'c, u64>>
-    requires of { IsPassFor (core_collector core.now) pass.old × (0 < its_links (core_collector core.now)) }
+    requires of { IsPassOf (core_collector core.now) pass.old × (0 < its_links (core_collector core.now)) }
     requires block { IsBlockOf (core_collector core.now) block }
-    ensures pass { IsPassFor (core_collector core.now) pass.new }
+    ensures pass { IsPassOf (core_collector core.now) pass.new }
     ensures of { IfSome result (IsUnlinkedOf (core_collector core.now)) }
 {
     let (mut found, mut block) = (core.protect(0, pass), block);

@@ -3,7 +3,7 @@ ghost use base.Stored.{gnum};
 ghost use Rattle.std.specs.Prelude.{◌≡◌, ◌<◌, ◌≤◌, ℕ, length, IfSome};
 ghost use Rattle.seize.specs.Blocks.{HasContent};
 ghost use Rattle.seize.specs.Links.{IsUnlinkedOf, unlinked_name};
-ghost use Rattle.seize.specs.Collectors.{IsPassFor, its_links};
+ghost use Rattle.seize.specs.Collectors.{IsPassOf, its_links};
 ghost use Rattle.seize.specs.Guards.{core_collector, core_slot, guard_collector};
 ghost use Rattle.seize.specs.Laws.{moments_seen, opening_of};
 ghost use Rattle.seize.specs.Makes.{MakesNone};
@@ -23,9 +23,9 @@ pub fn read<W: Wait>(
     rt: &W,
     pass: &mut Pass,
 ) -> Result<Option<u64>, Refusal>
-    requires pass { IsPassFor (registered_in registration.now) pass.old }
+    requires pass { IsPassOf (registered_in registration.now) pass.old }
     requires link { 0 < its_links (registered_in registration.now) }
-    ensures pass { IsPassFor (registered_in registration.now) pass.new }
+    ensures pass { IsPassOf (registered_in registration.now) pass.new }
 {
     let guard = registration.enter(pass)?;
     let found = guard.protect(0, pass).map(|shared| *shared);
@@ -40,9 +40,9 @@ pub fn replace<W: Wait>(
     rt: &W,
     pass: &mut Pass,
 ) -> Result<(), Refusal>
-    requires pass { IsPassFor (registered_in registration.now) pass.old }
+    requires pass { IsPassOf (registered_in registration.now) pass.old }
     requires link { 0 < its_links (registered_in registration.now) }
-    ensures pass { IsPassFor (registered_in registration.now) pass.new }
+    ensures pass { IsPassOf (registered_in registration.now) pass.new }
 {
     let block = registration.owned(value).map_err(|(refusal, _)| refusal)?;
     let guard = registration.enter(pass)?;
@@ -68,8 +68,8 @@ pub fn put_and_read<W: Wait>(alloc: Global, value: u64, rt: &W) -> Result<Option
 /// In the list that the pass sees then, each value that was reclaimed was retired before, once, and each slot that was active at that
 /// moment has left or refreshed since.
 pub fn audit(registration: &Registration<'_, u64>, pass: &mut Pass)
-    requires pass { IsPassFor (registered_in registration.now) pass.old }
-    ensures pass { IsPassFor (registered_in registration.now) pass.new }
+    requires pass { IsPassOf (registered_in registration.now) pass.old }
+    ensures pass { IsPassOf (registered_in registration.now) pass.new }
     ensures none { MakesNone pass.old pass.new }
     ensures after { After (opening_of pass.new) (moments_seen pass.new) }
 {
@@ -79,8 +79,8 @@ pub fn audit(registration: &Registration<'_, u64>, pass: &mut Pass)
 /// The number in link 0, which the guard found, after a look at the list. The read stands there, after all that the pass had seen before;
 /// and while the guard stands, the number is not reclaimed in what the pass sees.
 pub fn read_and_audit(core: &GuardCore<'_, u64>, pass: &mut Pass) -> Option<u64>
-    requires of { IsPassFor (core_collector core.now) pass.old × (0 < its_links (core_collector core.now)) }
-    ensures pass { IsPassFor (core_collector core.now) pass.new }
+    requires of { IsPassOf (core_collector core.now) pass.old × (0 < its_links (core_collector core.now)) }
+    ensures pass { IsPassOf (core_collector core.now) pass.new }
     ensures found { let ms = moments_seen pass.new in IfSome result (λ n. (v : ℕ) × HasContent gnum v n
         × ((e : ℕ) × (length (moments_seen pass.old) ≤ e) × Found ms (core_slot core.now) v e) × ((k : ℕ) → ¬ (Reclaimed ms v k))) }
 {
@@ -97,8 +97,8 @@ pub fn retire_and_audit<W: Wait>(
     rt: &W,
     pass: &mut Pass,
 )
-    requires of { IsPassFor (guard_collector guard.now) pass.old × IsUnlinkedOf (guard_collector guard.now) value }
-    ensures pass { IsPassFor (guard_collector guard.now) pass.new }
+    requires of { IsPassOf (guard_collector guard.now) pass.old × IsUnlinkedOf (guard_collector guard.now) value }
+    ensures pass { IsPassOf (guard_collector guard.now) pass.new }
     ensures retired { let v = unlinked_name value.entry in let ms = moments_seen pass.new in (q : ℕ) × Retired ms v q
         × ((c : ℕ) → Reclaimed ms v c → (q < c) × ((s : ℕ) → IsActiveAt ms s q → HasParted ms s q c)) }
 {

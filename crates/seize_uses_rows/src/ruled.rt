@@ -1,6 +1,6 @@
 //! Links with a rule: versions that grow, and a mark that stays. And a number that one guard found and another takes out.
 ghost use Rattle.std.specs.Prelude.{◌≡◌, ◌<◌};
-ghost use Rattle.seize.specs.Collectors.{IsPassFor, its_links};
+ghost use Rattle.seize.specs.Collectors.{IsPassOf, its_links};
 ghost use Rattle.seize.specs.Guards.{guard_collector, owned_collector};
 ghost use Rattle.seize.specs.Registrations.{registered_in};
 
@@ -25,8 +25,8 @@ fn grown(
     rt: &impl Wait,
     pass: &mut Pass,
 ) -> Result<([bool; 4], [u64; 4]), Refusal>
-    requires { IsPassFor (registered_in registration.now) pass.old × (0 < its_links (registered_in registration.now)) }
-    ensures { IsPassFor (registered_in registration.now) pass.new }
+    requires { IsPassOf (registered_in registration.now) pass.old × (0 < its_links (registered_in registration.now)) }
+    ensures { IsPassOf (registered_in registration.now) pass.new }
 {
     let first = registration.enter(pass)?;
     let begin = number(newest(&first, 0, pass));
@@ -75,8 +75,8 @@ fn moved(
     rt: &impl Wait,
     pass: &mut Pass,
 ) -> Result<([bool; 4], [Option<u64>; 4]), Refusal>
-    requires { IsPassFor (guard_collector guard.now) pass.old × (1 < its_links (guard_collector guard.now)) }
-    ensures { IsPassFor (guard_collector guard.now) pass.new }
+    requires { IsPassOf (guard_collector guard.now) pass.old × (1 < its_links (guard_collector guard.now)) }
+    ensures { IsPassOf (guard_collector guard.now) pass.new }
 {
     let none = find(guard, 0, 1, pass);
     let seven = put(guard, 0, 7, rt, pass)?;
@@ -95,8 +95,8 @@ fn moved_under_a_guard(
     rt: &impl Wait,
     pass: &mut Pass,
 ) -> Result<([bool; 4], [Option<u64>; 4]), Refusal>
-    requires { IsPassFor (registered_in registration.now) pass.old × (1 < its_links (registered_in registration.now)) }
-    ensures { IsPassFor (registered_in registration.now) pass.new }
+    requires { IsPassOf (registered_in registration.now) pass.old × (1 < its_links (registered_in registration.now)) }
+    ensures { IsPassOf (registered_in registration.now) pass.new }
 {
     let guard = registration.enter(pass)?;
     let found = moved(&guard, rt, pass);
@@ -133,9 +133,9 @@ fn taken(
     seen: &mut Pass,
     pass: &mut Pass,
 ) -> Option<u64>
-    requires finder { IsPassFor (owned_collector finder.now) seen.old × (0 < its_links (owned_collector finder.now)) }
-    requires taker { IsPassFor (owned_collector taker.now) pass.old × (owned_collector taker.now ≡ owned_collector finder.now) }
-    ensures { IsPassFor (owned_collector finder.now) seen.new × IsPassFor (owned_collector taker.now) pass.new }
+    requires finder { IsPassOf (owned_collector finder.now) seen.old × (0 < its_links (owned_collector finder.now)) }
+    requires taker { IsPassOf (owned_collector taker.now) pass.old × (owned_collector taker.now ≡ owned_collector finder.now) }
+    ensures { IsPassOf (owned_collector finder.now) seen.new × IsPassOf (owned_collector taker.now) pass.new }
 {
     let (number, out) = take_found(finder, taker, seen, pass)?;
     taker.defer_retire(rt, pass, out);
@@ -150,9 +150,9 @@ fn found_and_taken(
     seen: &mut Pass,
     pass: &mut Pass,
 ) -> Result<[Option<u64>; 2], Refusal>
-    requires finder { IsPassFor (owned_collector finder.now) seen.old × (0 < its_links (owned_collector finder.now)) }
-    requires taker { IsPassFor (owned_collector taker.now) pass.old × (owned_collector taker.now ≡ owned_collector finder.now) }
-    ensures { IsPassFor (owned_collector finder.now) seen.new × IsPassFor (owned_collector taker.now) pass.new }
+    requires finder { IsPassOf (owned_collector finder.now) seen.old × (0 < its_links (owned_collector finder.now)) }
+    requires taker { IsPassOf (owned_collector taker.now) pass.old × (owned_collector taker.now ≡ owned_collector finder.now) }
+    ensures { IsPassOf (owned_collector finder.now) seen.new × IsPassOf (owned_collector taker.now) pass.new }
 {
     let block = taker.owned(7).map_err(|(refusal, _)| refusal)?;
     if let Some(old) = taker.swap(0, Some(block), pass) {

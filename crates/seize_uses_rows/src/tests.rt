@@ -1,6 +1,6 @@
 //! Each caller once, where memory is there.
 ghost use Rattle.std.specs.Prelude.{◌≡◌, ◌<◌, IfOk};
-ghost use Rattle.seize.specs.Collectors.{IsPassFor, its_links};
+ghost use Rattle.seize.specs.Collectors.{IsPassOf, its_links};
 ghost use Rattle.seize.specs.Registrations.{registered_in};
 
 use seize::thread_id::{Numbers, Thread};
@@ -146,8 +146,8 @@ fn count_a_refresh<'a>(
     rt: &impl Wait,
     pass: &mut Pass,
 ) -> Result<((u64, u64), (u64, u64)), Refusal>
-    requires { IsPassFor (registered_in registration.now) pass.old × (0 < its_links (registered_in registration.now)) }
-    ensures { IsPassFor (registered_in registration.now) pass.new }
+    requires { IsPassOf (registered_in registration.now) pass.old × (0 < its_links (registered_in registration.now)) }
+    ensures { IsPassOf (registered_in registration.now) pass.new }
 {
     let mut guard = registration.enter(pass)?;
     if let Ok(block) = guard.owned(1) {
@@ -187,8 +187,8 @@ fn found_in_a_cache(
     rt: &impl Wait,
     pass: &mut Pass,
 ) -> Result<(Option<u64>, Option<u64>, Option<u64>), Refusal>
-    requires { IsPassFor (registered_in registration.now) pass.old × (0 < its_links (registered_in registration.now)) }
-    ensures { IsPassFor (registered_in registration.now) pass.new }
+    requires { IsPassOf (registered_in registration.now) pass.old × (0 < its_links (registered_in registration.now)) }
+    ensures { IsPassOf (registered_in registration.now) pass.new }
 {
     let guard = registration.enter(pass)?;
     let one = cache::put(&guard, Entry { key: 1, value: 10 }, rt, pass);

@@ -2,7 +2,7 @@
 ghost use Rattle.std.specs.Prelude.{◌≡◌, ℕ, IfErr, IfOk, None, Some, box_value, get_or, length};
 ghost use Rattle.seize.specs.Collectors.{its_book, its_id, its_most, its_size, seen_by};
 ghost use Rattle.seize_book.specs.Tokens.{IsSole};
-ghost use Rattle.seize_calls.specs.Slots.{IsPassFor};
+ghost use Rattle.seize_calls.specs.Slots.{IsPassOf};
 ghost use Rattle.seize.specs.Alones.{AreNumbersFor};
 ghost use Rattle.seize_words.specs.Joined.{words_book};
 ghost use Rattle.seize_words.specs.Rows.{AreShared};
@@ -81,7 +81,7 @@ pub(super) fn shared<T: Drop, R: Reclaim<T>>(
     id: u64,
     alloc: Global,
 ) -> Collector<T, R>
-    requires pass { IsPassFor words pass × IsSole pass.id }
+    requires pass { IsPassOf words pass × IsSole pass.id }
     requires numbers { AreNumbersFor words numbers }
     requires ender { IsEnderOf words (box_value ender) }
     requires shared { AreShared words.links }

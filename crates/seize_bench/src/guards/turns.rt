@@ -1,7 +1,7 @@
 //! What a thread does in a run, turn by turn.
 ghost use Rattle.std.specs.Prelude.{◌≡◌, ◌<◌, ◌≤◌, ◌+◌, ℕ, Option, IfSome};
 ghost use Rattle.seize.specs.Blocks.{content_of};
-ghost use Rattle.seize.specs.Collectors.{BelongsTo, IsPassFor, its_links};
+ghost use Rattle.seize.specs.Collectors.{BelongsTo, IsPassOf, its_links};
 ghost use Rattle.seize.specs.Guards.{core_collector, owned_collector};
 ghost use Rattle.seize.specs.Registrations.{registered_in};
 
@@ -110,7 +110,7 @@ impl Turns {
         rt: &W,
         pass: &mut Pass,
     ) -> Result<u64, Refusal>
-        requires { IsPassFor (registered_in registration.now) pass.old × (its_links (registered_in registration.now) ≡ 1024) }
+        requires { IsPassOf (registered_in registration.now) pass.old × (its_links (registered_in registration.now) ≡ 1024) }
     {
         let mut at = self.step.wrapping_mul(registration.thread_id() as u64);
         let mut due: u64 = 0;
@@ -136,7 +136,7 @@ fn enter_many<W: Wait>(
     rt: &W,
     pass: &mut Pass,
 ) -> Result<u64, Refusal>
-    requires { IsPassFor (registered_in registration.now) pass.old }
+    requires { IsPassOf (registered_in registration.now) pass.old }
 {
     for _ in 0..turns {
         let guard = registration.enter(pass)?;
@@ -152,8 +152,8 @@ fn read<W: Wait>(
     rt: &W,
     pass: &mut Pass,
 ) -> Result<u64, Refusal>
-    requires of { IsPassFor (registered_in registration.now) pass.old × (link < its_links (registered_in registration.now)) }
-    ensures pass { IsPassFor (registered_in registration.now) pass.new }
+    requires of { IsPassOf (registered_in registration.now) pass.old × (link < its_links (registered_in registration.now)) }
+    ensures pass { IsPassOf (registered_in registration.now) pass.new }
 {
     let guard = registration.enter(pass)?;
     let found = guard.protect(link, pass).map_or(0, |shared| *shared);
@@ -170,10 +170,10 @@ fn replace<G: Guard<u64>, W: Wait>(
     rt: &W,
     pass: &mut Pass,
 )
-    requires of { IsPassFor (G.its_collector guard.now) pass.old × (link < its_links (G.its_collector guard.now)) }
+    requires of { IsPassOf (G.its_collector guard.now) pass.old × (link < its_links (G.its_collector guard.now)) }
     requires new { IfSome new (λ owned. BelongsTo G.Reclaimer.owners (G.its_collector guard.now) owned) }
     requires rule { (x : Option ℕ) → G.Reclaimer.keeps link x (content_of new) }
-    ensures pass { IsPassFor (G.its_collector guard.now) pass.new }
+    ensures pass { IsPassOf (G.its_collector guard.now) pass.new }
 {
     if let Some(old) = guard.core().swap(link, new, pass) {
         guard.defer_retire(rt, pass, old);
@@ -188,8 +188,8 @@ fn put<W: Wait>(
     rt: &W,
     pass: &mut Pass,
 ) -> Result<(), Refusal>
-    requires of { IsPassFor (registered_in registration.now) pass.old × (link < its_links (registered_in registration.now)) }
-    ensures pass { IsPassFor (registered_in registration.now) pass.new }
+    requires of { IsPassOf (registered_in registration.now) pass.old × (link < its_links (registered_in registration.now)) }
+    ensures pass { IsPassOf (registered_in registration.now) pass.new }
 {
     let guard = registration.enter(pass)?;
     let done = match registration.owned(value) {
@@ -210,8 +210,8 @@ fn take<W: Wait>(
     rt: &W,
     pass: &mut Pass,
 ) -> Result<(), Refusal>
-    requires of { IsPassFor (registered_in registration.now) pass.old × (link < its_links (registered_in registration.now)) }
-    ensures pass { IsPassFor (registered_in registration.now) pass.new }
+    requires of { IsPassOf (registered_in registration.now) pass.old × (link < its_links (registered_in registration.now)) }
+    ensures pass { IsPassOf (registered_in registration.now) pass.new }
 {
     let guard = registration.enter(pass)?;
     replace(&guard, link, None, rt, pass);
@@ -253,8 +253,8 @@ pub(crate) fn take_from_all<W: Wait>(
 
 // The sum of the values that the links hold.
 fn sum_links(core: &GuardCore<'_, u64>, pass: &mut Pass) -> u64
-    requires of { IsPassFor (core_collector core.now) pass.old × (its_links (core_collector core.now) ≡ 1024) }
-    ensures pass { IsPassFor (core_collector core.now) pass.new }
+    requires of { IsPassOf (core_collector core.now) pass.old × (its_links (core_collector core.now) ≡ 1024) }
+    ensures pass { IsPassOf (core_collector core.now) pass.new }
 {
     let mut sum: u64 = 0;
     for link in 0..ROW {
@@ -269,7 +269,7 @@ fn see_many<W: Wait>(
     rt: &W,
     pass: &mut Pass,
 ) -> Result<u64, Refusal>
-    requires { IsPassFor (registered_in registration.now) pass.old × (its_links (registered_in registration.now) ≡ 1024) }
+    requires { IsPassOf (registered_in registration.now) pass.old × (its_links (registered_in registration.now) ≡ 1024) }
 {
     let mut sum: u64 = 0;
     for _ in 0..turns {
@@ -286,7 +286,7 @@ fn exchange_many<W: Wait>(
     rt: &W,
     pass: &mut Pass,
 ) -> Result<u64, Refusal>
-    requires { IsPassFor (registered_in registration.now) pass.old × (its_links (registered_in registration.now) ≡ 1024) }
+    requires { IsPassOf (registered_in registration.now) pass.old × (its_links (registered_in registration.now) ≡ 1024) }
 {
     for _ in 0..turns {
         take(registration, 0, rt, pass)?;
@@ -301,8 +301,8 @@ fn retire_new<W: Wait>(
     rt: &W,
     pass: &mut Pass,
 ) -> Result<(), Refusal>
-    requires { IsPassFor (registered_in registration.now) pass.old }
-    ensures { IsPassFor (registered_in registration.now) pass.new }
+    requires { IsPassOf (registered_in registration.now) pass.old }
+    ensures { IsPassOf (registered_in registration.now) pass.new }
 {
     for value in 0..many {
         match registration.owned(value) {
@@ -322,7 +322,7 @@ fn retire_many<W: Wait>(
     rt: &W,
     pass: &mut Pass,
 ) -> Result<u64, Refusal>
-    requires { IsPassFor (registered_in registration.now) pass.old }
+    requires { IsPassOf (registered_in registration.now) pass.old }
 {
     for _ in 0..turns {
         let guard = registration.enter(pass)?;

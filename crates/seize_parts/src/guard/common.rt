@@ -46,7 +46,7 @@ impl<'c, T: Drop, R: Reclaim<T>, C: Home<T>> GuardCore<'c, T, R, C> {
     ghost use Rattle.seize_machine.specs.declared.machine.event.Answer.TheVariants.{Link};
     ghost use Rattle.seize_machine.specs.declared.machine.event.Exchange.TheVariants.{Swap};
     ghost use Rattle.seize_table.specs.declared.refusal.Refusal.TheVariants.{NoMemory as no_memory};
-    ghost use Rattle.seize_calls.specs.Slots.{IsPassFor};
+    ghost use Rattle.seize_calls.specs.Slots.{IsPassOf};
     ghost use Rattle.seize_parts.specs.Blocks.{IsNamed, content, content_of};
     ghost use Rattle.seize_parts.specs.Links.{ComesOut, IsSharedOf, IsUnlinkedOf, Shows};
     ghost use Rattle.seize_parts.specs.Collectors.{IsBlockOf, its_links};
@@ -88,7 +88,7 @@ impl<'c, T: Drop, R: Reclaim<T>, C: Home<T>> GuardCore<'c, T, R, C> {
     /// It takes no memory and no lock, and waits for nobody: one load of the link, and where that holds a block three more to find it.
     #[inline(always)]
     pub fn protect(&self, link: usize, pass: &mut Pass) -> Option<Shared<'_, T>>
-        requires of { IsPassFor (core_collector self.now) pass.old × (link < its_links (core_collector self.now)) }
+        requires of { IsPassOf (core_collector self.now) pass.old × (link < its_links (core_collector self.now)) }
         ensures { (held : Option ℕ) × MakesOne pass.old pass.new (ReadLink (core_slot self.now) link) (Link held)
             × Shows (core_collector self.now) T.row.coded.code held result × FoundIn (core_activation self.now) held pass.new }
     {
@@ -105,7 +105,7 @@ impl<'c, T: Drop, R: Reclaim<T>, C: Home<T>> GuardCore<'c, T, R, C> {
     /// It makes no event, and does nothing when the program runs: its contract is the law.
     #[inline(always)]
     pub fn protected(&self, pass: &mut Pass)
-        requires of { IsPassFor (core_collector self.now) pass.old }
+        requires of { IsPassOf (core_collector self.now) pass.old }
         ensures none { MakesNone pass.old pass.new }
         ensures protects { Protects (core_activation self.now) pass.new }
     {
@@ -124,7 +124,7 @@ impl<'c, T: Drop, R: Reclaim<T>, C: Home<T>> GuardCore<'c, T, R, C> {
         value: Option<Owned<T>>,
         pass: &mut Pass,
     ) -> Option<Unlinked<'c, T>>
-        requires of { IsPassFor (core_collector self.now) pass.old × (link < its_links (core_collector self.now)) }
+        requires of { IsPassOf (core_collector self.now) pass.old × (link < its_links (core_collector self.now)) }
         requires value { IfSome value (λ owned. BelongsTo R.owners (core_collector self.now) owned) }
         requires rule { (x : Option T) → R.keeps link x (content_of value) }
         ensures of { IfSome result (IsUnlinkedOf (core_collector self.now)) }
@@ -160,7 +160,7 @@ impl<'c, T: Drop, R: Reclaim<T>, C: Home<T>> GuardCore<'c, T, R, C> {
         new: Option<Owned<T>>,
         pass: &mut Pass,
     ) -> Result<Option<Unlinked<'c, T>>, Failed<'_, T>>
-        requires of { IsPassFor (core_collector self.now) pass.old × (link < its_links (core_collector self.now)) }
+        requires of { IsPassOf (core_collector self.now) pass.old × (link < its_links (core_collector self.now)) }
         requires value { IfSome new (λ owned. BelongsTo R.owners (core_collector self.now) owned) }
         requires current { IfSome current (λ shared. IsSharedOf T.row.coded.code (core_collector self.now) shared.now) }
         requires rule { R.keeps link (current_value current) (content_of new) }
@@ -191,7 +191,7 @@ impl<'c, T: Drop, R: Reclaim<T>, C: Home<T>> GuardCore<'c, T, R, C> {
         new: Option<Owned<T>>,
         pass: &mut Pass,
     ) -> Result<Option<Unlinked<'c, T>>, Failed<'_, T>>
-        requires of { IsPassFor (core_collector self.now) pass.old × (link < its_links (core_collector self.now)) }
+        requires of { IsPassOf (core_collector self.now) pass.old × (link < its_links (core_collector self.now)) }
         requires value { IfSome new (λ owned. BelongsTo R.owners (core_collector self.now) owned) }
         requires current { IfSome current (λ shared. IsSharedOf T.row.coded.code (core_collector self.now) shared.now) }
         requires rule { R.keeps link (current_value current) (content_of new) }

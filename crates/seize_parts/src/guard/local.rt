@@ -3,7 +3,7 @@
 ghost use Rattle.std.specs.Prelude.{◌≡◌};
 ghost use Rattle.seize_machine.specs.declared.machine.event.Job.TheVariants.{Retire};
 ghost use Rattle.seize_parts.specs.Links.{IsUnlinkedOf, unlinked_name};
-ghost use Rattle.seize_calls.specs.Slots.{IsPassFor};
+ghost use Rattle.seize_calls.specs.Slots.{IsPassOf};
 ghost use Rattle.seize_parts.specs.Makes.{Defers, IsOfKind};
 
 use crate::block::{Owned, Unlinked};
@@ -72,7 +72,7 @@ impl<'r, 'c, T: Drop, R: Reclaim<T>, C: Home<T>> LocalGuard<'r, 'c, T, R, C> {
     /// nobody.
     #[inline(always)]
     pub fn leave<W: Wait>(self, rt: &W, pass: &mut Pass)
-        requires of { IsPassFor (guard_collector self) pass.old }
+        requires of { IsPassOf (guard_collector self) pass.old }
         ensures { MakesCall (PutBy T.row.coded.code R.puts) (guard_slot self.entry) Leave pass.old pass.new
             ⊎ StaysActive (guard_slot self.entry) pass.old pass.new }
     {
@@ -101,7 +101,7 @@ impl<'r, 'c, T: Drop, R: Reclaim<T>, C: Home<T>> LocalGuard<'r, 'c, T, R, C> {
     ///
     /// It makes no event, takes no memory and waits for nobody.
     pub fn forget(self, pass: &mut Pass)
-        requires of { IsPassFor (guard_collector self) pass.old }
+        requires of { IsPassOf (guard_collector self) pass.old }
         ensures none { MakesNone pass.old pass.new }
     {
         let LocalGuard { registration, core } = self;
@@ -154,7 +154,7 @@ impl<T: Drop, R: Reclaim<T>, C: Home<T>> Guard<T> for LocalGuard<'_, '_, T, R, C
 
     #[inline(always)]
     fn defer_retire<W: Wait>(&self, rt: &W, pass: &mut Pass, value: Unlinked<'_, T>)
-        requires of { IsPassFor (guard_collector self.now) pass.old × IsUnlinkedOf (guard_collector self.now) value }
+        requires of { IsPassOf (guard_collector self.now) pass.old × IsUnlinkedOf (guard_collector self.now) value }
         ensures call { Defers (guard_slot self.now) (Retire (unlinked_name value.entry)) pass.old pass.new }
         ensures kind { IsOfKind (unlinked_name value.entry) 0 pass.new }
     {
@@ -163,7 +163,7 @@ impl<T: Drop, R: Reclaim<T>, C: Home<T>> Guard<T> for LocalGuard<'_, '_, T, R, C
 
     #[inline(always)]
     fn defer_retire_as<W: Wait>(&self, rt: &W, pass: &mut Pass, value: Unlinked<'_, T>, kind: u64)
-        requires of { IsPassFor (guard_collector self.now) pass.old × IsUnlinkedOf (guard_collector self.now) value }
+        requires of { IsPassOf (guard_collector self.now) pass.old × IsUnlinkedOf (guard_collector self.now) value }
         ensures call { Defers (guard_slot self.now) (Retire (unlinked_name value.entry)) pass.old pass.new }
         ensures kind { IsOfKind (unlinked_name value.entry) kind pass.new }
     {

@@ -4,7 +4,7 @@ ghost use Rattle.std.specs.Prelude.{◌≡◌};
 ghost use Rattle.seize_machine.specs.declared.machine.event.Job.TheVariants.{Retire};
 ghost use Rattle.seize_parts.specs.Links.{IsUnlinkedOf, unlinked_name};
 ghost use Rattle.seize_words.specs.Joined.{words_book};
-ghost use Rattle.seize_calls.specs.Slots.{IsPassFor};
+ghost use Rattle.seize_calls.specs.Slots.{IsPassOf};
 ghost use Rattle.seize_parts.specs.Makes.{Defers, IsOfKind};
 ghost use Rattle.seize_parts.specs.Shelves.{IsShelfFor};
 ghost use Rattle.seize_parts.specs.Reservations.{IsHeadFor, place_label};
@@ -66,7 +66,7 @@ impl<'c, T: Drop, R: Reclaim<T>, C: Home<T>> OwnedGuard<'c, T, R, C> {
         requires home { parts.now.words ≡ C.its_words home.now }
         requires slot { IsSlotOf parts.now.words slot × IsInactive slot }
         requires shelf { IsShelfFor parts.now.words shelf }
-        requires pass { IsPassFor parts.now.words pass.old }
+        requires pass { IsPassOf parts.now.words pass.old }
         ensures of { (owned_collector result ≡ parts.now.words) × (owned_slot result ≡ its_number slot) × (owned_home result ≡ home.now) }
         ensures enters { MakesOne pass.old pass.new (Enter (its_number slot)) Done }
     {
@@ -94,7 +94,7 @@ impl<'c, T: Drop, R: Reclaim<T>, C: Home<T>> OwnedGuard<'c, T, R, C> {
     ///
     /// But for what that does, it takes no memory and waits for nobody: the lock is free.
     pub fn refresh<W: Wait>(&mut self, rt: &W, pass: &mut Pass)
-        requires of { IsPassFor (owned_collector self.old) pass.old }
+        requires of { IsPassOf (owned_collector self.old) pass.old }
         ensures same { (owned_collector self.new ≡ owned_collector self.old) × (owned_slot self.new ≡ owned_slot self.old)
             × (owned_home self.new ≡ owned_home self.old) }
         ensures refreshes { MakesCall (PutBy T.row.coded.code R.puts) (owned_slot self.old) Refresh pass.old pass.new }
@@ -123,9 +123,9 @@ impl<'c, T: Drop, R: Reclaim<T>, C: Home<T>> OwnedGuard<'c, T, R, C> {
     /// register or end.
     #[inline(always)]
     pub fn leave<W: Wait>(self, rt: &W, pass: &mut Pass)
-        requires of { IsPassFor (owned_collector self) pass.old }
+        requires of { IsPassOf (owned_collector self) pass.old }
         ensures leaves { LeavesAndGives (PutBy T.row.coded.code R.puts) (owned_slot self.entry) pass.old pass.new }
-        ensures pass { IsPassFor (owned_collector self.entry) pass.new }
+        ensures pass { IsPassOf (owned_collector self.entry) pass.new }
     {
         let OwnedGuard {
             core,
@@ -215,7 +215,7 @@ impl<T: Drop, R: Reclaim<T>, C: Home<T>> Guard<T> for OwnedGuard<'_, T, R, C> {
     }
 
     fn defer_retire<W: Wait>(&self, rt: &W, pass: &mut Pass, value: Unlinked<'_, T>)
-        requires of { IsPassFor (owned_collector self.now) pass.old × IsUnlinkedOf (owned_collector self.now) value }
+        requires of { IsPassOf (owned_collector self.now) pass.old × IsUnlinkedOf (owned_collector self.now) value }
         ensures call { Defers (owned_slot self.now) (Retire (unlinked_name value.entry)) pass.old pass.new }
         ensures kind { IsOfKind (unlinked_name value.entry) 0 pass.new }
     {
@@ -223,7 +223,7 @@ impl<T: Drop, R: Reclaim<T>, C: Home<T>> Guard<T> for OwnedGuard<'_, T, R, C> {
     }
 
     fn defer_retire_as<W: Wait>(&self, rt: &W, pass: &mut Pass, value: Unlinked<'_, T>, kind: u64)
-        requires of { IsPassFor (owned_collector self.now) pass.old × IsUnlinkedOf (owned_collector self.now) value }
+        requires of { IsPassOf (owned_collector self.now) pass.old × IsUnlinkedOf (owned_collector self.now) value }
         ensures call { Defers (owned_slot self.now) (Retire (unlinked_name value.entry)) pass.old pass.new }
         ensures kind { IsOfKind (unlinked_name value.entry) kind pass.new }
     {

@@ -1,7 +1,7 @@
 //! How a thread takes a slot, and how it gives one back, where threads share the collector. Each is a work on the numbers; what a slot
 //! attempts then goes to the reclaimer outside their lock.
 ghost use Rattle.std.specs.Prelude.{◌≡◌, IfErr, IfNone, IfOk, IfSome};
-ghost use Rattle.seize_calls.specs.Slots.{IsInactive, IsPassFor, IsSlotOf, its_number};
+ghost use Rattle.seize_calls.specs.Slots.{IsInactive, IsPassOf, IsSlotOf, its_number};
 ghost use Rattle.seize_machine.specs.Machine.Event.{Give};
 ghost use Rattle.seize_machine.specs.declared.machine.event.Answer.TheVariants.{Done};
 ghost use Rattle.seize_parts.specs.Makes.{GivesNumber, MakesOne, TakesNumber};
@@ -33,7 +33,7 @@ struct Registering<'a, T> {
 
 impl<'a, 'p, T: Drop> LockWork<Numbers<T>, Pass<'p>, Result<Taken<T>, Refusal>>
     for Registering<'a, T> {
-    ghost may = { λ work numbers pass. IsLockFor work.words.now numbers × IsPassFor work.words.now pass };
+    ghost may = { λ work numbers pass. IsLockFor work.words.now numbers × IsPassOf work.words.now pass };
 
     ghost gives = { λ work numbers numbers' pass pass' result.
         IfOk result (λ made. HasTaken work.words.now pass pass' made.slot made.begun × IsShelfFor work.words.now made.shelf)
@@ -55,7 +55,7 @@ struct Ending<'a, T> {
 }
 
 impl<'a, 'p, T: Drop> LockWork<Numbers<T>, Pass<'p>, Option<Slot<T>>> for Ending<'a, T> {
-    ghost may = { λ work numbers pass. IsLockFor work.words.now numbers × IsPassFor work.words.now pass
+    ghost may = { λ work numbers pass. IsLockFor work.words.now numbers × IsPassOf work.words.now pass
         × MayEnd work.words.now work.slot };
 
     ghost gives = { λ work numbers numbers' pass pass' result.
@@ -86,7 +86,7 @@ pub fn take_slot<T: Drop, R: Reclaim<T>, W: Wait>(
     alloc: Global,
     pass: &mut Pass,
 ) -> Result<(Slot<T>, Shelf<T>), Refusal>
-    requires { IsPassFor parts.now.words pass.old }
+    requires { IsPassOf parts.now.words pass.old }
     ensures slot { IfOk result (λ made. IsSlotOf parts.now.words made.0 × IsInactive made.0 × IsShelfFor parts.now.words made.1) }
     ensures takes { IfOk result (λ made. TakesNumber (PutBy T.row.coded.code R.puts) (its_number made.0) pass.old pass.new) }
     ensures refused { IfErr result (λ refusal. TakesNone pass.old pass.new refusal) }
@@ -119,7 +119,7 @@ pub fn end_slot<T: Drop, R: Reclaim<T>, W: Wait>(
     slot: Slot<T>,
     pass: &mut Pass,
 )
-    requires pass { IsPassFor parts.now.words pass.old }
+    requires pass { IsPassOf parts.now.words pass.old }
     requires slot { MayEnd parts.now.words slot }
     ensures gives { GivesNumber (PutBy T.row.coded.code R.puts) (its_number slot) pass.old pass.new }
 {

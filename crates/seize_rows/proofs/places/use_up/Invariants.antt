@@ -1,6 +1,6 @@
-use Rattle.seize.specs.Collectors.{IsPassFor}
+use Rattle.seize.specs.Collectors.{IsPassOf}
 use Rattle.seize.specs.Guards.{guard_collector}
 use Rattle.seize_rows.proofs.places.use_up.Given as goal
 
 abbrev pub invariant-loop : goal.invariant-loop
-invariant-loop g l = IsPassFor (guard_collector l.guard) l.pass
+invariant-loop g l = IsPassOf (guard_collector l.guard) l.pass

@@ -9,7 +9,7 @@ use Rattle.seize_book.specs.declared.book.pass.Pass.{Pass}
 use Rattle.seize_book.specs.declared.book.seen.Seen.{Seen}
 use Rattle.seize_words.specs.Joined.{words_book}
 use Rattle.seize_words.specs.Named.{link_count}
-use Rattle.seize_calls.specs.Slots.{IsPassFor}
+use Rattle.seize_calls.specs.Slots.{IsPassOf}
 use Rattle.seize_alone.specs.Holding.{Holds}
 use Rattle.seize.specs.Collectors.{its_book, seen_by}
 use Rattle.seize_parts.specs.Enders.{IsEnderOf}
@@ -33,7 +33,7 @@ first-hands-requires g c =
 pub shared-requires : goal.shared-requires
 shared-requires g c =
     let parts = c.into_parts-words.ensures in let comes = c.come_to_rest-found.ensures.rests in let pass = c.come_to_rest-found.new.pass in
-    let for : IsPassFor c.into_parts-words.result.0 pass = (parts.pass.0.0 ∙ sym comes.same.0, parts.pass.0.1 ∙ sym comes.same.2) in (
+    let for : IsPassOf c.into_parts-words.result.0 pass = (parts.pass.0.0 ∙ sym comes.same.0, parts.pass.0.1 ∙ sym comes.same.2) in (
       omega arith,
       (
         omega arith,

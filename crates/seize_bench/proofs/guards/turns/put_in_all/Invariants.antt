@@ -1,6 +1,6 @@
-use Rattle.seize.specs.Collectors.{IsPassFor}
+use Rattle.seize.specs.Collectors.{IsPassOf}
 use Rattle.seize.specs.Registrations.{registered_in}
 use Rattle.seize_bench.proofs.guards.turns.put_in_all.Given as goal
 
 abbrev pub invariant-loop-n : goal.invariant-loop-n
-invariant-loop-n g l = IsPassFor (registered_in l.registration) l.pass
+invariant-loop-n g l = IsPassOf (registered_in l.registration) l.pass

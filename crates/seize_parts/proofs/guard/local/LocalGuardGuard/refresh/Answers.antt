@@ -2,7 +2,7 @@ use Rattle.std.proofs.Common.{◌≡◌, ℕ, ◌⊎◌, ◌-◌, ◌^◌, subst
 use Rattle.seize_machine.specs.declared.machine.event.Job.TheVariants.{Refresh}
 use Rattle.seize_book.specs.declared.book.pass.Pass.{Pass}
 use Rattle.seize_words.specs.declared.activation.Activation.{Activation}
-use Rattle.seize_calls.specs.Slots.{IsPassFor, its_number}
+use Rattle.seize_calls.specs.Slots.{IsPassOf, its_number}
 use Rattle.seize_words.specs.Joined.{words_book}
 use Rattle.seize_parts.specs.Guards.{guard_collector, guard_slot}
 use Rattle.seize_parts.specs.Puts.{PutBy}
@@ -17,7 +17,7 @@ pub with-unit-requires : goal.with-unit-requires
 with-unit-requires g c =
     let guard = c.args.self.now in let collector = guard_collector guard in let n = words_book collector in let s = guard_slot guard in let core = guard.core in
     λ r keeps. let at = in_place n s (2 ^ 64 - 1) r (keeps.0 ∙ guard_place guard) in
-    (at.0, subst (IsPassFor collector) (sym c.with-spare.ensures.gives) c.requires.of, unit_as n s (its_number r.slot) core.unit c.replace-unit.result core.seen at.1 c.replace-unit.ensures.value (core.its, core.known), head_for n s (its_number r.slot) guard.registration.now.head.now (guard_head guard) at.1, c.ender.ensures)
+    (at.0, subst (IsPassOf collector) (sym c.with-spare.ensures.gives) c.requires.of, unit_as n s (its_number r.slot) core.unit c.replace-unit.result core.seen at.1 c.replace-unit.ensures.value (core.its, core.known), head_for n s (its_number r.slot) guard.registration.now.head.now (guard_head guard) at.1, c.ender.ensures)
 
 pub invariant_of-core : goal.invariant_of-core
 invariant_of-core g c =

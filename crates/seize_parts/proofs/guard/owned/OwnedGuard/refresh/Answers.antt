@@ -1,7 +1,7 @@
 use Rattle.std.proofs.Common.{ℕ, subst, sym, ◌∙◌}
 use Rattle.seize_machine.specs.declared.machine.event.Job.TheVariants.{Refresh}
 use Rattle.seize_book.specs.declared.book.pass.Pass.{Pass}
-use Rattle.seize_calls.specs.Slots.{IsPassFor, its_number}
+use Rattle.seize_calls.specs.Slots.{IsPassOf, its_number}
 use Rattle.seize_words.specs.Joined.{words_book}
 use Rattle.seize_parts.specs.Puts.{PutBy}
 use Rattle.seize_parts.specs.Makes.{MakesCall}
@@ -14,7 +14,7 @@ pub with-unit-requires : goal.with-unit-requires
 with-unit-requires g c =
     let self = c.args.self.now in let core = self.core in let collector = core.parts.now.words in let n = words_book collector in
     λ r keeps. let at = in_place n core.number 1 r (keeps.0 ∙ self.at) in
-    (at.0, subst (IsPassFor collector) (sym c.with-spare.ensures.gives) c.requires.of, unit_as n core.number (its_number r.slot) core.unit c.replace-unit.result core.seen at.1 c.replace-unit.ensures.value (core.its, core.known), head_for n core.number (its_number r.slot) self.head.now self.headed at.1, c.ender.ensures)
+    (at.0, subst (IsPassOf collector) (sym c.with-spare.ensures.gives) c.requires.of, unit_as n core.number (its_number r.slot) core.unit c.replace-unit.result core.seen at.1 c.replace-unit.ensures.value (core.its, core.known), head_for n core.number (its_number r.slot) self.head.now self.headed at.1, c.ender.ensures)
 
 pub invariant_of-core : goal.invariant_of-core
 invariant_of-core g c =
