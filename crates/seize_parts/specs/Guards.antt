@@ -1,6 +1,6 @@
 -- What contracts see of guards.
---     core_collector c, core_slot c     the words of the collector of a guard's core, and its slot's number;  core_activation c     its part
---                              of the slot's activation, of another one after a refresh;  core_home c     the collector
+--     core_collector c, core_slot c     the words of the collector of a guard's core, and its slot's number;  core_home c     the collector
+--     core_activation c        its part of the slot's activation, of another one after a refresh
 --     guard_core g             the core of a guard of a registration;  guard_collector g, guard_slot g, guard_home g     what it has
 --     owned_core g             the core of an owned guard;  owned_collector g, owned_slot g, owned_home g     what it has
 --     IsGuardOf r g            the guard is of this registration

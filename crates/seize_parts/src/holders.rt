@@ -1,4 +1,4 @@
-//! How a thread comes to a slot: by a registration, or by a guard that has a slot of its own. Each takes the least number that is not in use.
+//! How a thread comes to a slot: by a registration, or by a guard that has a slot of its own. Each takes the least number not in use.
 ghost use Rattle.std.specs.Prelude.{◌≡◌, IfErr, IfOk};
 ghost use Rattle.seize_calls.specs.Slots.{IsPassOf};
 ghost use Rattle.seize_parts.specs.Guards.{owned_collector, owned_home, owned_slot};

@@ -64,7 +64,8 @@ impl<'c, T: Drop, R: Reclaim<T>, C: Home<T>> Registration<'c, T, R, C> {
         requires slot { IsSlotOf parts.now.words slot × IsInactive slot }
         requires shelf { IsShelfFor parts.now.words shelf }
         requires pass { IsPassOf parts.now.words pass.old }
-        ensures of { (registered_in result ≡ parts.now.words) × (registered_slot result ≡ its_number slot) × (registered_home result ≡ home.now) }
+        ensures of { (registered_in result ≡ parts.now.words) × (registered_slot result ≡ its_number slot)
+            × (registered_home result ≡ home.now) }
         ensures looks { Prepares slot pass.old pass.new }
     {
         let words = &parts.words;

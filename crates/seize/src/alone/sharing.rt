@@ -45,7 +45,7 @@ impl<T: Drop, R: Reclaim<T>> Collector<T, R> {
     /// where a number is in use, and memory is refused. What had been forgotten stays so.
     pub fn alone(self) -> Result<Alone<T, R>, Collector<T, R>>
         ensures made { IfOk result (λ alone. (alone.book ≡ its_book self) × (alone.size ≡ its_size self) × (alone.id ≡ its_id self)
-            × (alone.links ≡ its_links (its_words self)) × (alone.state.size ≡ alone.size) × (length alone.state.links ≡ its_links (its_words self))
+            × (alone.links ≡ its_links (its_words self)) × (alone.state.size ≡ alone.size) × (length alone.state.links ≡ alone.links)
             × GoesOnTo alone.book (seen_by self) alone.seen × AddsNothing self alone.seen × (alone.most ≡ its_most self)) }
         ensures back { IfErr result (FindsInUse self) }
     {
