@@ -22,7 +22,7 @@ use Rattle.seize_words.specs.declared.words.Words.{Words}
 use Rattle.seize_parts.specs.Makes.{made_with}
 use Rattle.seize.specs.declared.collector.Collector.{Collector}
 pub use Rattle.seize_calls.specs.Together.{IsPassOf}
-pub use Rattle.seize_parts.specs.Collectors.{BelongsTo, IsBlockOf, its_links, its_store}
+pub use Rattle.seize_parts.specs.Collectors.{BelongsTo, IsBlockOf, collector_id, its_links, its_store}
 
 abbrev pub its_words : {T R : Type 0} → Collector T R → Words T
 its_words collector = collector.parts.words
@@ -37,7 +37,7 @@ abbrev pub its_most : {T R : Type 0} → Collector T R → ℕ
 its_most collector = (its_words collector).sizes.most
 
 abbrev pub its_id : {T R : Type 0} → Collector T R → ℕ
-its_id collector = collector.id
+its_id collector = collector_id (its_words collector)
 
 abbrev pub collector_text : ℕ → List ℕ
 collector_text size = codes "Collector { batch_size: " ++ (decimal size ++ codes " }")

@@ -46,7 +46,6 @@ pub struct Collector<T: Drop, R: Reclaim<T> = Boxed> {
     pub(crate) parts: Parts<T, R>,
     // Who makes passes, out of their reach.
     pub(crate) porter: Porter,
-    pub(crate) id: u64,
     pub(crate) alloc: Global,
     ghost lends: { (porter.name ≡ words_book parts.words) × (porter.size ≡ parts.words.size) × (porter.home ≡ false) },
 }
@@ -133,7 +132,7 @@ impl<T: Drop, R: Reclaim<T>> Collector<T, R> {
         ensures refused { IfErr result (λ refusal. refusal ≡ no_memory) }
     {
         let (words, permits, pairs, mut porter, key, next) = Words::new(
-            alloc, processors, links, size,
+            alloc, processors, links, size, id,
         )?;
         let ender = Ender {
             reclaimer,
@@ -153,7 +152,6 @@ impl<T: Drop, R: Reclaim<T>> Collector<T, R> {
         Ok(Collector {
             parts,
             porter,
-            id,
             alloc,
         })
     }
@@ -167,7 +165,6 @@ impl<T: Drop, R: Reclaim<T>> Collector<T, R> {
         let Collector {
             parts,
             mut porter,
-            id,
             alloc,
         } = self;
         let Parts {
@@ -184,7 +181,6 @@ impl<T: Drop, R: Reclaim<T>> Collector<T, R> {
         Collector {
             parts,
             porter,
-            id,
             alloc,
         }
     }
@@ -197,20 +193,17 @@ impl<T: Drop, R: Reclaim<T>> Collector<T, R> {
         Pass<'static>,
         Numbers<T>,
         Box<Ender<T, R>>,
-        u64,
         Global,
     )
         ensures words { (words_book result.0 ≡ its_book self) × (result.0.size ≡ its_size self) × AreShared result.0.links
-            × (result.0.sizes.most ≡ its_most self) }
+            × (result.0.sizes.most ≡ its_most self) × (result.0.id ≡ its_id self) }
         ensures pass { IsPassOf result.0 result.1 × Shuts self.porter result.1 }
         ensures numbers { AreNumbers result.2 × IsLockFor result.0 result.2 }
         ensures ender { IsEnderOf result.0 (box_value result.3) }
-        ensures id { result.4 ≡ its_id self }
     {
         let Collector {
             parts,
             porter,
-            id,
             alloc,
         } = self;
         let Parts {
@@ -218,7 +211,7 @@ impl<T: Drop, R: Reclaim<T>> Collector<T, R> {
             numbers,
             ender,
         } = parts;
-        (words, porter.shut(), numbers.into_value(), ender, id, alloc)
+        (words, porter.shut(), numbers.into_value(), ender, alloc)
     }
 
     /// How many links it has.
@@ -232,7 +225,7 @@ impl<T: Drop, R: Reclaim<T>> Collector<T, R> {
     pub fn id(&self) -> u64
         ensures { result ≡ its_id self.now }
     {
-        self.id
+        self.parts.words.id
     }
 
     /// A new pass, with which nothing was made. It lasts for as long as the collector is shared, and may go to another thread.
@@ -411,16 +404,16 @@ impl<T: Drop, R: Reclaim<T>> Collector<T, R> {
     /// collector may be shared again.
     ///
     /// Slots that were forgotten leave first: those of registrations and guards that `forget` spent, and of registrations that ended with
-    /// the answer false. Then each slot attempts its batch, and the numbers go back. The slots go in order of their numbers. Then what the
-    /// reclaimer put meanwhile goes to it, oldest first; what it puts with these joins the end, until none is left. The watch is told of
-    /// each value, in order, just before it goes to the reclaimer.
+    /// the answer false. Then each of these slots attempts its batch, in order of their numbers. What slots left as they ended is attempted
+    /// next, by the slot of a free number, and all numbers go back. Then what the reclaimer put meanwhile goes to it, oldest first; what it
+    /// puts with these joins the end, until none is left. The watch is told of each value, in order, just before it goes to the reclaimer.
     ///
     /// The answer is false, then and later, as tests show, where a registration or a guard is lost: a type that holds it was given to
     /// `mem::forget`. What is in that slot's batch stays. If the slot has a guard, what waits for it or is attempted later stays as well.
     ///
-    /// It takes no memory and waits for nobody, but for what watch and reclaimer do. Each slot takes the lock of its shelf and makes two
-    /// atomic swaps and an attempt of its batch, which looks at the heads of all slots. One that was forgotten with a guard makes one swap
-    /// more.
+    /// It takes no memory and waits for nobody, but for what watch and reclaimer do. It takes the lock of the shelf of each number in use.
+    /// Each slot that was forgotten makes two atomic swaps and an attempt of its batch, which looks at the heads of all slots; one that was
+    /// forgotten with a guard makes one swap more. So does one slot for what was left.
     pub fn reclaim_all<W: Watch<T>>(&mut self, watch: &mut W) -> bool
         ensures reclaims { ReclaimsAll self.old self.new result }
         ensures same_reference { watch.exit.ghost_name ≡ watch.entry.ghost_name }
@@ -450,7 +443,7 @@ impl<T: Drop, R: Reclaim<T>> PartialEq for Collector<T, R> {
     ghost laws = { Prim.search (comparing, rules) };
 
     fn eq(&self, other: &Collector<T, R>) -> bool {
-        self.id == other.id
+        self.id() == other.id()
     }
 }
 
@@ -479,7 +472,6 @@ impl<T: Drop, R: Reclaim<T>> Drop for Collector<T, R> {
         let Collector {
             parts,
             mut porter,
-            id: _,
             alloc: _,
         } = self;
         let Parts {

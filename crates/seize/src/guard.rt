@@ -3,8 +3,13 @@ use crate::collector::Collector;
 pub use seize_parts::guard::Guard;
 use seize_parts::reclaim::Boxed;
 
-/// What guards of both kinds have in common.
-pub type GuardCore<'c, T, R = Boxed> = seize_parts::guard::GuardCore<'c, T, R, Collector<T, R>>;
+/// What guards of both kinds have in common. Code over any `G: Guard<T>` takes one with `C: Home<T>`, which is `G::At`.
+pub type GuardCore<'c, T, R = Boxed, C = Collector<T, R>> = seize_parts::guard::GuardCore<
+    'c,
+    T,
+    R,
+    C,
+>;
 
 /// A guard of a registration.
 pub type LocalGuard<'r, 'c, T, R = Boxed> = seize_parts::guard::LocalGuard<

@@ -6,7 +6,7 @@ ghost use Rattle.seize.specs.Guards.{core_collector};
 ghost use Rattle.seize.specs.Links.{IsUnlinkedOf};
 ghost use Rattle.seize_test_kit.specs.declared.marked.Marked.{Marked};
 
-use seize::{Collector, Guard, GuardCore, IdSource, Pass, Reclaim, Refusal, Unlinked};
+use seize::{Collector, Guard, GuardCore, Home, IdSource, Pass, Reclaim, Refusal, Unlinked};
 use seize_test_kit::marked::{Marked, ended, ends_of};
 use std::alloc::Global;
 use std::process::Abort;
@@ -50,8 +50,8 @@ fn put<'a, G: Guard<Marked<'a>>, W: Wait>(guard: &G, value: Marked<'a>, rt: &W, 
 }
 
 // The number that the link holds.
-fn read<'a, R: Reclaim<Marked<'a>>>(
-    core: &GuardCore<'_, Marked<'a>, R>,
+fn read<'a, R: Reclaim<Marked<'a>>, C: Home<Marked<'a>>>(
+    core: &GuardCore<'_, Marked<'a>, R, C>,
     pass: &mut Pass,
 ) -> Option<u64>
     requires of { IsPassOf (core_collector core.now) pass.old × (0 < its_links (core_collector core.now)) }
@@ -61,8 +61,8 @@ fn read<'a, R: Reclaim<Marked<'a>>>(
 }
 
 // An exchange that compares with an empty link is lost. The next compares with what was found, and is won: it gives what came out.
-fn exchange<'a, 'c, R: Reclaim<Marked<'a>>>(
-    core: &GuardCore<'c, Marked<'a>, R>,
+fn exchange<'a, 'c, R: Reclaim<Marked<'a>>, C: Home<Marked<'a>>>(
+    core: &GuardCore<'c, Marked<'a>, R, C>,
     value: Marked<'a>,
     pass: &mut Pass,
 ) -> Option<Unlinked<'c, Marked<'a>>>

@@ -86,7 +86,7 @@ impl<T: Drop, R: Reclaim<T>> Alone<T, R> {
         ensures refused { IfErr result (λ refusal. refusal ≡ no_memory) }
     {
         let (mut words, permits, pairs, porter, key, next) = Words::new(
-            alloc, processors, links, size,
+            alloc, processors, links, size, id,
         )?;
         let ender = Ender {
             reclaimer,
@@ -107,7 +107,6 @@ impl<T: Drop, R: Reclaim<T>> Alone<T, R> {
             places: Vec::new(alloc),
             made: 0,
             ender,
-            id,
             alloc,
             hands,
         })
@@ -124,7 +123,6 @@ impl<T: Drop, R: Reclaim<T>> Alone<T, R> {
             places,
             made,
             ender,
-            id,
             alloc,
             hands,
         } = self;
@@ -139,7 +137,6 @@ impl<T: Drop, R: Reclaim<T>> Alone<T, R> {
             places,
             made,
             ender,
-            id,
             alloc,
             hands,
         }

@@ -66,7 +66,8 @@ pub(crate) fn exchange_at<T: Drop, R: Reclaim<T>>(
         × IsNamed T.row.coded.code new number × LooseComesOut held result }
     ensures loose { IfSome result (λ loose. IsLooseOf words.old loose × IsReadable loose) }
     ensures words { (words.new.blocks ≡ words.old.blocks) × (words.new.size ≡ words.old.size)
-        × IsSameBut link words.old.links words.new.links × (words.new.sizes ≡ words.old.sizes) }
+        × IsSameBut link words.old.links words.new.links × (words.new.sizes ≡ words.old.sizes)
+        × (words.new.id ≡ words.old.id) }
     ensures stands { StandsAt words.new.links link (link_at (state_seen pass.new) link) }
 {
     words.links.stir_at(link);

@@ -49,11 +49,11 @@ impl<T: Drop, R: Reclaim<T>> Collector<T, R> {
             × GoesOnTo alone.book (seen_by self) alone.seen × AddsNothing self alone.seen × (alone.most ≡ its_most self)) }
         ensures back { IfErr result (FindsInUse self) }
     {
-        let (mut words, mut pass, mut numbers, ender, id, alloc) = self.into_parts();
+        let (mut words, mut pass, mut numbers, ender, alloc) = self.into_parts();
         let found = numbers.come_to_rest(&words, &ender, alloc, &mut pass);
         let Found { made, places, all } = found;
         if !all {
-            return Err(shared(words, pass, numbers, places, ender, id, alloc));
+            return Err(shared(words, pass, numbers, places, ender, alloc));
         }
         let hands = Hands::first::<Brand, Vec<Option<Place<T>>>>(&pass, &places);
         words.links.rest(&mut pass);
@@ -64,7 +64,6 @@ impl<T: Drop, R: Reclaim<T>> Collector<T, R> {
             places,
             made,
             ender,
-            id,
             alloc,
             hands,
         })
@@ -78,7 +77,6 @@ pub(super) fn shared<T: Drop, R: Reclaim<T>>(
     numbers: Numbers<T>,
     places: Vec<Option<Place<T>>>,
     ender: Box<Ender<T, R>>,
-    id: u64,
     alloc: Global,
 ) -> Collector<T, R>
     requires pass { IsPassOf words pass × IsSole pass.id }
@@ -86,7 +84,7 @@ pub(super) fn shared<T: Drop, R: Reclaim<T>>(
     requires ender { IsEnderOf words (box_value ender) }
     requires shared { AreShared words.links }
     requires places { (s : ℕ) (place : Place T) → get_or places.items s None ≡ Some place → MayLay (words_book words) place }
-    ensures same { (its_book result ≡ words_book words) × (its_size result ≡ words.size) × (its_id result ≡ id)
+    ensures same { (its_book result ≡ words_book words) × (its_size result ≡ words.size) × (its_id result ≡ words.id)
         × (seen_by result ≡ pass.entry.seen) × (its_most result ≡ words.sizes.most) }
 {
     let mut porter = Porter::again(pass);
@@ -101,7 +99,6 @@ pub(super) fn shared<T: Drop, R: Reclaim<T>>(
     Collector {
         parts,
         porter,
-        id,
         alloc,
     }
 }
@@ -125,11 +122,10 @@ impl<T: Drop, R: Reclaim<T>> Alone<T, R> {
             places,
             made: _,
             ender,
-            id,
             alloc,
             hands: _,
         } = self;
         words.links.stir();
-        shared(words, pass, numbers, places, ender, id, alloc)
+        shared(words, pass, numbers, places, ender, alloc)
     }
 }

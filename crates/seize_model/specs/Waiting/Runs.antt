@@ -195,7 +195,7 @@ left_behind =
 abbrev pub left_behind_told : List Telling
 left_behind_told = ([], Number 0 ∷ Number 1 ∷ dones 10) ∷ (1 ∷ 2 ∷ 3 ∷ [], dones 1) ∷ []
 
--- **Inherited.** The batch of a slot that ended is that of the next slot with its number.
+-- **Left for the next.** The last slot in use ends, and its batch goes. So the next slot has none of it.
 abbrev pub inherited_batch : List Group
 inherited_batch =
     Calls (Register ∷ gives 0 1 ∷ End 0 ∷ []) ∷ Calls (EnterOwned ∷ gives 0 2 ∷ gives 0 3 ∷ []) ∷ Calls (Leave 0 ∷ []) ∷ []

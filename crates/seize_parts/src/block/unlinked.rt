@@ -25,7 +25,9 @@ impl<'c, T: Drop> Unlinked<'c, T> {
     ghost use Rattle.seize_words.specs.LinkWords.{IsLoose, value_held};
     ghost use Rattle.seize_calls.specs.Slots.{IsLooseIn, its_value};
     ghost use Rattle.seize_calls.specs.declared.slot.Loose.{Loose};
-    ghost use Rattle.seize_parts.specs.Links.{ComesOut, unlinked_name};
+    ghost use Rattle.seize_words.specs.declared.words.Words.{Words};
+    ghost use Rattle.seize_parts.specs.Collectors.{collector_id};
+    ghost use Rattle.seize_parts.specs.Links.{ComesOut, IsUnlinkedOf, unlinked_name};
 
     // What came out of a link, whose word was this; nothing where that was 0.
     pub(crate) fn found(words: &'c Words<T>, word: u64, key: MaybeKey) -> Option<Unlinked<'c, T>>
@@ -37,6 +39,13 @@ impl<'c, T: Drop> Unlinked<'c, T> {
     {
         let loose = Loose::of(word, key)?;
         Some(Unlinked { words, loose })
+    }
+
+    /// The id of its collector.
+    pub fn collector_id(&self) -> u64
+        ensures { (words : Words T) → IsUnlinkedOf words self.now → result ≡ collector_id words }
+    {
+        self.words.id
     }
 
     // What is retired.

@@ -100,7 +100,7 @@ returns-clause-same g c =
     let words = c.exchange_at-old.ensures.words in let is = c.self.view_is in let book = ap (λ (b : Blocks g.row.T.Denot). b.book.name) words.0 in (
       book ∙ ap (λ (v : View g.row.T.Denot). v.book) is,
       words.1 ∙ ap (λ (v : View g.row.T.Denot). v.size) is,
-      ap (λ (v : View g.row.T.Denot). v.id) is,
+      words.4 ∙ ap (λ (v : View g.row.T.Denot). v.id) is,
       ap (λ (n : Name). length n.links) book ∙ ap (λ (v : View g.row.T.Denot). v.links) is,
       ap (λ (s : Sizes). s.most) words.3 ∙ ap (λ (v : View g.row.T.Denot). v.most) is,
     )

@@ -75,7 +75,7 @@ returns-clause-made g c =
     let own : self.porter.name ≡ words_book words = self.lends.0 ∙ sym parts.words.0 in (
       parts.words.0,
       parts.words.1,
-      parts.id,
+      parts.words.4,
       ap (λ (n : Name). length n.links) parts.words.0,
       first.1 ∙ comes.same.2 ∙ sym parts.pass.0.1,
       first.2 ∙ ap (λ (n : Name). length n.links) (comes.same.0 ∙ sym parts.pass.0.0 ∙ parts.words.0),
@@ -90,7 +90,7 @@ returns-then-not-all-clause-back g c =
     let own : self.porter.name ≡ name = self.lends.0 in let had_name : had.name ≡ name = shut.book.0 ∙ own in let same = c.shared.ensures.same in
     let seen : seen_by c.shared.result ≡ had.seen = same.3 ∙ comes.still in let book : c.come_to_rest-found.new.pass.name ≡ its_book c.shared.result = comes.same.0 ∙ had_name ∙ sym (same.0 ∙ parts.words.0) in
     record {
-      same = (same.0 ∙ parts.words.0, same.1 ∙ parts.words.1, same.2 ∙ parts.id, same.4 ∙ parts.words.3);
+      same = (same.0 ∙ parts.words.0, same.1 ∙ parts.words.1, same.2 ∙ parts.words.4, same.4 ∙ parts.words.3);
       goes_on = subst (λ (t : Name × List Entry). GoesOnTo t.0 (seen_by self) t.1) (λ j. (own j, sym seen j)) shut.goes_on;
       nothing = subst (λ (t : Name × List Entry). mine (start t.0) 0 t.1 ≡ mine (start t.0) 0 (seen_by self)) (λ j. (own j, sym seen j)) shut.none_made;
       in_use = λ unused. comes.kept c.if-not-all.true (λ s. (λ j. (slot_at (after (start (book j)) (sym same.3 j)) s).used) ∙ unused s);
