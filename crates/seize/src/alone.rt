@@ -345,8 +345,9 @@ impl<T: Drop, R: Reclaim<T>> Alone<T, R> {
     }
 
     /// Gives the number of a registered slot back. It answers false where the slot has a guard, and changes nothing. While another slot is
-    /// in use, the slot's batch is left for whoever takes a number next. Else what slots left and the batch are gone, in that order, and
-    /// then what the reclaimer puts, in turn.
+    /// in use, the slot's batch is left for whoever takes a number next. Else what slots left and the batch are attempted, until nothing is
+    /// left. Where the collector was never shared, they are gone then, in that order, and then what the reclaimer puts, in turn
+    /// (`waiting::last_ends`).
     ///
     /// The watch is told of each value that is gone, in order. It takes no memory and waits for nobody, but for what watch and reclaimer
     /// do.

@@ -199,8 +199,9 @@ impl<'c, T: Drop, R: Reclaim<T>, C: Home<T>> Registration<'c, T, R, C> {
     /// Where a guard was forgotten the slot is active still. Then the answer is false, and no event is made: number and batch wait for
     /// `Collector::reclaim_all`, for `Collector::alone`, or for the collector's drop.
     ///
-    /// But for what the reclaimer does, it takes no memory. It waits for other threads that register or end. There is no bound for its
-    /// attempts where reclaimers put more each time.
+    /// But for what the reclaimer does, it takes no memory. It waits for other threads that register or end. An attempt reads the head of
+    /// each slot that was made, and tries again where another thread changes one; there is no bound for attempts where reclaimers put more
+    /// each time. Values that other threads retired may end in this call: no lock may be held that their `Drop` takes.
     pub fn end<W: Wait>(self, rt: &W, pass: &mut Pass) -> bool
         requires pass { IsPassOf (registered_in self) pass.old }
         ensures ends { EndsUse (PutBy T.row.coded.code R.puts) (registered_slot self.entry) pass.old pass.new result }

@@ -120,7 +120,7 @@ impl<'c, T: Drop, R: Reclaim<T>, C: Home<T>> OwnedGuard<'c, T, R, C> {
     /// that was left.
     ///
     /// But for what the reclaimer does, it takes no memory. It takes no lock of the guard. At last it waits for other threads that
-    /// register or end.
+    /// register or end. Values that other threads retired may end in this call: no lock may be held that their `Drop` takes.
     #[inline(always)]
     pub fn leave<W: Wait>(self, rt: &W, pass: &mut Pass)
         requires of { IsPassOf (owned_collector self) pass.old }
