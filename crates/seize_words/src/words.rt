@@ -61,8 +61,8 @@ impl<T: Drop> Words<T> {
 
     /// The words of a new book, with so many links, which are empty, and no slot; the list of the codes that may be lent with its values
     /// and that of the pairs that its links may go through; the porter of its passes, which is at home; and the two keys with which its
-    /// slots are made. A slot attempts its batch when that has `size` values, and at least one; `set_size` sets another size. The words keep
-    /// the `id`. The table of heads has the buckets of the numbers from 0 to `capacity`. It asks for their memory and for that of the
+    /// slots are made. A slot attempts its batch when that has `size` values, and at least one; `set_size` sets another size. The words
+    /// keep the `id`. The table of heads has the buckets of the numbers from 0 to `capacity`. It asks for their memory and for that of the
     /// links; the store of blocks has no rows yet.
     ///
     /// # Errors
