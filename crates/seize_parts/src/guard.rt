@@ -46,6 +46,9 @@ pub trait Guard<T: Drop> {
     /// Its part of the slot's activation, of another one after a refresh.
     ghost its_activation: { Self → Activation };
 
+    /// That other guards of the slot may stand beside one of this kind.
+    ghost has_others: { Type 0 };
+
     /// What it reads and exchanges links with.
     fn core(&self) -> &GuardCore<'_, T, Self::Reclaimer, Self::At>
         ensures { (core_collector result.now ≡ its_collector self.now) × (core_slot result.now ≡ its_slot self.now)
@@ -93,6 +96,6 @@ pub trait Guard<T: Drop> {
         ensures same { (its_collector self.new ≡ its_collector self.old)
             × (its_slot self.new ≡ its_slot self.old) }
         ensures refreshes { MakesCall (PutBy T.row.coded.code Self.Reclaimer.puts) (its_slot self.old) Refresh pass.old pass.new
-            ⊎ (StaysActive (its_slot self.old) pass.old pass.new
+            ⊎ (has_others × StaysActive (its_slot self.old) pass.old pass.new
             × (its_activation self.new ≡ its_activation self.old)) };
 }

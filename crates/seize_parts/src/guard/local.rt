@@ -142,6 +142,8 @@ impl<T: Drop, R: Reclaim<T>, C: Home<T>> Guard<T> for LocalGuard<'_, '_, T, R, C
 
     ghost its_activation = { λ guard. core_activation (guard_core guard) };
 
+    ghost has_others = { Unit {0} };
+
     #[inline(always)]
     fn core(&self) -> &GuardCore<'_, T, R, C> {
         &self.core

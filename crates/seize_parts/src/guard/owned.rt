@@ -193,6 +193,7 @@ impl<'c, T: Drop, R: Reclaim<T>, C: Home<T>> Deref for OwnedGuard<'c, T, R, C> {
 }
 
 impl<T: Drop, R: Reclaim<T>, C: Home<T>> Guard<T> for OwnedGuard<'_, T, R, C> {
+    ghost use Rattle.std.specs.Prelude.{⊥};
     ghost use Rattle.seize_parts.specs.Guards.{core_activation, owned_core, owned_collector, owned_slot};
 
     type Reclaimer = R;
@@ -204,6 +205,8 @@ impl<T: Drop, R: Reclaim<T>, C: Home<T>> Guard<T> for OwnedGuard<'_, T, R, C> {
     ghost its_slot = { λ guard. owned_slot guard };
 
     ghost its_activation = { λ guard. core_activation (owned_core guard) };
+
+    ghost has_others = { ⊥ };
 
     #[inline(always)]
     fn core(&self) -> &GuardCore<'_, T, R, C> {

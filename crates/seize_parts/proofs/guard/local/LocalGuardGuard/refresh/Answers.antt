@@ -1,4 +1,4 @@
-use Rattle.std.proofs.Common.{◌≡◌, ℕ, ◌⊎◌, ◌-◌, ◌^◌, subst, sym, ◌∙◌}
+use Rattle.std.proofs.Common.{◌≡◌, ℕ, ◌⊎◌, ◌-◌, ◌^◌, inl, inr, subst, sym, ◌∙◌}
 use Rattle.seize_machine.specs.declared.machine.event.Job.TheVariants.{Refresh}
 use Rattle.seize_book.specs.declared.book.pass.Pass.{Pass}
 use Rattle.seize_words.specs.declared.activation.Activation.{Activation}
@@ -12,6 +12,11 @@ use Rattle.seize_parts.proofs.Placed.{unit_as}
 use Rattle.seize_parts.proofs.Places.{head_for, in_place, one_of_two}
 use Rattle.seize_parts.proofs.Guarded.{guard_head, guard_place}
 use Rattle.seize_parts.proofs.guard.local.LocalGuardGuard.refresh.Goals as goal
+
+-- others may stand beside a local guard
+with_others : {X Y : Type 0} → X ⊎ Y → X ⊎ (Unit {0} × Y)
+with_others (inl x) = inl x
+with_others (inr y) = inr (tt, y)
 
 pub with-unit-requires : goal.with-unit-requires
 with-unit-requires g c =
@@ -30,5 +35,5 @@ returns-clause-refreshes g c =
     let guard = c.args.self.now in let gives = c.with-unit.ensures.gives in let pass = c.args.pass.now in let pass' = c.with-unit.new.with in
     let at = in_place (words_book (guard_collector guard)) (guard_slot guard) (2 ^ 64 - 1) c.with-unit.ensures.before (c.with-unit.ensures.was.0 ∙ guard_place guard) in
     let same : c.replace-unit.result ≡ guard.core.unit = c.replace-unit.ensures.value in
-    subst (λ (t : ℕ × Pass × Activation). MakesCall (PutBy g.row.T.coded.code g.R.Puts.puts) t.0 Refresh t.1 pass' ⊎ (StaysActive t.0 t.1 pass' × (c.with-unit.result.0 ≡ t.2)))
-    (λ j. (at.1 j, c.with-spare.ensures.gives j, same j)) (one_of_two gives.0)
+    with_others (subst (λ (t : ℕ × Pass × Activation). MakesCall (PutBy g.row.T.coded.code g.R.Puts.puts) t.0 Refresh t.1 pass' ⊎ (StaysActive t.0 t.1 pass' × (c.with-unit.result.0 ≡ t.2)))
+    (λ j. (at.1 j, c.with-spare.ensures.gives j, same j)) (one_of_two gives.0))
