@@ -78,7 +78,7 @@ returns-clause-made g c =
       parts.words.4,
       ap (λ (n : Name). length n.links) parts.words.0,
       first.1 ∙ comes.same.2 ∙ sym parts.pass.0.1,
-      first.2 ∙ ap (λ (n : Name). length n.links) (comes.same.0 ∙ sym parts.pass.0.0 ∙ parts.words.0),
+      first.2 ∙ ap (λ (n : Name). length n.links) (comes.same.0 ∙ sym parts.pass.0.0),
       subst (λ (t : Name × List Entry). GoesOnTo t.0 (seen_by self) t.1) (λ j. (own j, (sym c.rest.ensures.pass j).seen)) (goes_then shut.goes_on (subst (λ (n : Name). GoesOnTo n had.seen pass.seen) shut.book.0 comes.goes_on)),
       subst (λ (t : Name × List Entry). mine (start t.0) 0 t.1 ≡ mine (start t.0) 0 (seen_by self)) (λ j. (self.lends.0 j, sym (ap (λ (p : Pass). p.seen) c.rest.ensures.pass ∙ comes.still) j)) shut.none_made,
       parts.words.3,
