@@ -6,7 +6,7 @@ use Rattle.seize_machine.specs.Machine.Next.{Transition}
 use Rattle.seize_machine.specs.Machine.History.{Moment, at_size, history}
 use Rattle.seize_machine.specs.Machine.Laws.{AtMostOnce, After, Quiet, Unused, Protection, Whereabouts, Gone, Holders, NoLaterHolders, UnderGuard, Tries, Breaks}
 use Rattle.seize_machine.specs.Machine.Rows.{added_beside_active}
-use Rattle.seize_machine.specs.Machine.Counterexamples.{nothing_given_up, retired_alone, given_up_unless_active, given_up_below_zero, counted_down_early, given_up_and_kept, counted_alone, handed_twice, given_up_and_forgotten, skipped_and_counted, skipped_and_added, one_value_more, retired_at_a_smaller_size, rest_passed_over, retired_beside_two, number_passed_over, read_last_alone, read_other_alone, given_up_when_full, found_and_retired, fixed_note, made_before_put, retired_again, retired_twice, given_up_unretired, begun_alone, handed_alone, lost_at_any_time, lost_alone, left_in_the_link, found_after_its_retirement, taken_out, out_and_forgotten, another_stored, joined_at_entry, entered_after_add, left_after_add, kept_by_a_refresh, refreshed_after_add, ended_at_any_time, left_by_the_last, ended_by_its_batch, left_for_the_last, taken_without_the_rest, left_and_taken, taken_with_no_note, taken_at_a_smaller_size, recorded_in_front, handed_in_order}
+use Rattle.seize_machine.specs.Machine.Counterexamples.{nothing_given_up, retired_alone, given_up_unless_active, given_up_below_zero, counted_down_early, given_up_and_kept, counted_alone, handed_twice, given_up_and_forgotten, skipped_and_counted, skipped_and_added, one_value_more, retired_at_a_smaller_size, rest_passed_over, retired_beside_two, number_passed_over, read_last_alone, read_other_alone, given_up_when_full, found_and_retired, full_and_not_attempted, left_beside_another, fixed_note, made_before_put, retired_again, retired_twice, given_up_unretired, begun_alone, handed_alone, lost_at_any_time, lost_alone, left_in_the_link, found_after_its_retirement, taken_out, out_and_forgotten, another_stored, joined_at_entry, entered_after_add, left_after_add, kept_by_a_refresh, refreshed_after_add, ended_at_any_time, left_by_the_last, ended_by_its_batch, left_for_the_last, taken_without_the_rest, left_and_taken, taken_with_no_note, taken_at_a_smaller_size, recorded_in_front, handed_in_order}
 use Rattle.seize_machine.proofs.Laws.Refuting.{not_once, not_after, not_before, not_just_once, not_protection, not_retired_since, not_quiet, not_unused, not_distinct, not_forgotten, not_unretired, not_lost, not_unnamed, not_gone, not_holders, not_listed, not_unparted, not_held, not_kept, not_tries}
 
 abbrev start : List (Option ℕ) → State
@@ -41,6 +41,9 @@ skipped_and_counted_breaks_quiet = (refl, refl, not_quiet (start []) (moments sk
 
 pub one_value_more_breaks_quiet : Breaks one_value_more [] retired_at_a_smaller_size Quiet
 one_value_more_breaks_quiet = (refl, refl, not_quiet (start []) (history one_value_more (start []) retired_at_a_smaller_size) 7 3 refl (_, refl, refl) refl 1 refl refl refl)
+
+pub full_and_not_attempted_breaks_quiet : Breaks full_and_not_attempted [] (at_size 1 left_beside_another) Quiet
+full_and_not_attempted_breaks_quiet = (refl, refl, not_quiet (start []) (moments full_and_not_attempted [] 1 left_beside_another) 7 3 refl (_, refl, refl) refl 1 refl refl refl)
 
 pub rest_passed_over_breaks_after : Breaks rest_passed_over [] (at_size 1 retired_beside_two) After
 rest_passed_over_breaks_after = (refl, refl, not_after (start []) (moments rest_passed_over [] 1 retired_beside_two) 7 6 15 2 (_, refl, refl) (_, refl, refl) (_, refl, refl) refl)

@@ -1,5 +1,5 @@
 -- What breaks a law, as tests of a list's moments that compute.
-use Rattle.std.proofs.Common.{◌≡◌, ℕ, ◌+◌, ◌<◌, ◌≤◌, Bool, true, false, ◌==◌, ◌&&◌, ◌||◌, nat_lt, List, [], ◌∷◌, ◌++◌, length, get_or, Option, Some, None, refl, sym, ◌∙◌, ap, subst, ◌⊎◌, inl, inr, arith}
+use Rattle.std.proofs.Common.{◌≡◌, ℕ, ◌+◌, ◌*◌, ◌<◌, ◌≤◌, Bool, true, false, ◌==◌, ◌&&◌, ◌||◌, nat_lt, List, [], ◌∷◌, ◌++◌, length, get_or, Option, Some, None, refl, sym, ◌∙◌, ap, subst, ◌⊎◌, inl, inr, arith}
 use Rattle.std.specs.Prelude.{take, drop, slice_get, zero, suc}
 use Rattle.std.specs.List.{Contains, list_any, count_by}
 use Rattle.std.proofs.lemmas.List.{get_or_past}
@@ -75,9 +75,13 @@ not_protection st ms s v e c found handed never protects =
 abbrev pub batched : ℕ → ℕ → State → Slot → Bool
 batched v size st slot = has v slot.batch && nat_lt (length slot.batch) (bound size st)
 
--- the list ends quiet, and a value was retired, is never handed, and is in no slot's batch within the bound
+-- whether the rest has the value and is within its bound
+abbrev pub rested : ℕ → ℕ → State → Bool
+rested v size st = has v st.rest && nat_lt (length st.rest) (bound size st * length st.slots)
+
+-- the list ends quiet, and a value was retired, is never handed, and is in no slot's batch within the bound and not in the rest within its own
 pub not_quiet : (st : State) (ms : List Moment) (v q : ℕ) → is_quiet (end_of st ms) ≡ true → Retired ms v q → handed_ever v ms ≡ false
-    → (size : ℕ) → FillsWithin size ms → list_any (batched v size (end_of st ms)) (end_of st ms).slots ≡ false → has v (end_of st ms).rest ≡ false → ¬ (Quiet st ms)
+    → (size : ℕ) → FillsWithin size ms → list_any (batched v size (end_of st ms)) (end_of st ms).slots ≡ false → rested v size (end_of st ms) ≡ false → ¬ (Quiet st ms)
 not_quiet st ms v q ends retired never size sizes none no_rest quiet = go (quiet ends v q retired)
   where
     both : (a b : Bool) → a ≡ true → b ≡ true → (a && b) ≡ true
@@ -88,7 +92,7 @@ not_quiet st ms v q ends retired never size sizes none no_rest quiet = go (quiet
 
     go : ((c : ℕ) × Reclaimed ms v c) ⊎ IsBatched (end_of st ms) v ms ⊎ IsRested (end_of st ms) v ms → ⊥
     go (inl h) = not_both (handed_ever v ms) (has_handed ms v h.0 h.1) never
-    go (inr (inr h)) = not_both (has v (end_of st ms).rest) (contained (end_of st ms).rest v h.0) no_rest
+    go (inr (inr h)) = not_both (rested v size (end_of st ms)) (both _ _ (contained (end_of st ms).rest v h.0) (short _ _ (h.1 size sizes))) no_rest
     go (inr (inl h)) =
         not_both _
         (some_at (batched v size (end_of st ms)) (end_of st ms).slots no_slot h.0 refl

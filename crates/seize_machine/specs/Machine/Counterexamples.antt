@@ -130,6 +130,16 @@ abbrev pub found_and_retired : List Event
 found_and_retired =
     Take 0 ∷ Take 1 ∷ Enter 0 ∷ Enter 1 ∷ ReadLink 1 0 ∷ ExchangeLink 0 0 (Swap None) ∷ Begin 0 (Retire 7) ∷ Put 0 ∷ Hand 0 [] ∷ []
 
+-- **Full and not attempted.** A full batch stays, and is not attempted.
+abbrev pub full_and_not_attempted : Transition
+full_and_not_attempted = next_by (record scheme { filled = λ slots batch. (batch, Rest [] []) })
+
+-- Slot 0 retires 7, 8, 9 and 10 and ends beside slot 1. At the end all four are in the rest, whose bound at size 1 is 2 times 2.
+abbrev pub left_beside_another : List Event
+left_beside_another =
+    Take 0 ∷ Take 1 ∷ Begin 0 (Retire 7) ∷ Put 0 ∷ Return 0 ∷ Begin 0 (Retire 8) ∷ Put 0 ∷ Return 0
+    ∷ Begin 0 (Retire 9) ∷ Put 0 ∷ Return 0 ∷ Begin 0 (Retire 10) ∷ Put 0 ∷ Return 0 ∷ Give 0 ∷ []
+
 -- **A fixed note.** The note is 1, whatever the number of slots at the retirement. In the list below 1 was the number of slots
 -- at the call's beginning.
 abbrev pub fixed_note : Transition
