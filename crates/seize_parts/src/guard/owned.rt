@@ -193,7 +193,6 @@ impl<'c, T: Drop, R: Reclaim<T>, C: Home<T>> Deref for OwnedGuard<'c, T, R, C> {
 }
 
 impl<T: Drop, R: Reclaim<T>, C: Home<T>> Guard<T> for OwnedGuard<'_, T, R, C> {
-    ghost use Rattle.std.specs.Prelude.{⊥};
     ghost use Rattle.seize_parts.specs.Guards.{core_activation, owned_core, owned_collector, owned_slot};
 
     type Reclaimer = R;

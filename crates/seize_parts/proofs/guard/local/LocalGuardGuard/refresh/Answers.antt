@@ -14,9 +14,9 @@ use Rattle.seize_parts.proofs.Guarded.{guard_head, guard_place}
 use Rattle.seize_parts.proofs.guard.local.LocalGuardGuard.refresh.Goals as goal
 
 -- others may stand beside a local guard
-with_others : {X Y : Type 0} → X ⊎ Y → X ⊎ (Unit {0} × Y)
+with_others : {X Y Z : Type 0} → X ⊎ (Y × Z) → X ⊎ (Unit {0} × Y × Z)
 with_others (inl x) = inl x
-with_others (inr y) = inr (tt, y)
+with_others (inr y) = inr (tt, y.0, y.1)
 
 pub with-unit-requires : goal.with-unit-requires
 with-unit-requires g c =
