@@ -5,11 +5,13 @@ ghost use Rattle.seize.specs.Collectors.{its_links, its_words};
 ghost use Rattle.seize.specs.Guards.{owned_collector};
 ghost use Rattle.seize.specs.Registrations.{registered_in};
 
+mod standing;
 mod turns;
 
 use crate::clock::{RUNS, Samples, Span};
 use crate::team::{Team, one_run};
 use seize::{Collector, IdSource, OwnedGuard, Refusal, Registration};
+use standing::stand_all;
 use std::alloc::Global;
 use std::io::ErrorKind;
 use std::rt::Clock;
@@ -110,7 +112,37 @@ pub(crate) fn measure<R: Clock + CpuClock + Threads + Wait + Sync>(
     samples: &mut Samples,
 ) -> io::Result<()> {
     let collector = collector(rt, alloc, ROW, turns.size).map_err(refused)?;
-    let collector = &collector;
+    runs(rt, threads, &collector, turns, samples)
+}
+
+/// The same beside so many owned guards that stand from the beginning, and leave in the end.
+pub(crate) fn measure_beside<R: Clock + CpuClock + Threads + Wait + Sync>(
+    rt: &R,
+    threads: u64,
+    alloc: Global,
+    many: u64,
+    turns: Turns,
+    samples: &mut Samples,
+) -> io::Result<()> {
+    let collector = collector(rt, alloc, ROW, turns.size).map_err(refused)?;
+    let standing = stand_all(rt, alloc, &collector, many).map_err(refused)?;
+    let done = runs(rt, threads, &collector, turns, samples);
+    for one in standing {
+        one.leave(rt);
+    }
+    done
+}
+
+// The runs over this collector.
+fn runs<R: Clock + CpuClock + Threads + Wait + Sync>(
+    rt: &R,
+    threads: u64,
+    collector: &Collector<u64>,
+    turns: Turns,
+    samples: &mut Samples,
+) -> io::Result<()>
+    requires { its_links (its_words collector.now) ≡ 1024 }
+{
     for _ in 0..RUNS {
         let team = Team::of(threads);
         let (span, sum) = one_run(

@@ -18,6 +18,8 @@ pub(crate) enum Job {
     Enter,
     /// The same, beside a guard that stands.
     Nested,
+    /// It makes an owned guard, which leaves.
+    EnterOwned,
     /// It enters, reads a link, and leaves; or puts a value in, and retires what came out.
     Visit,
     /// It enters, reads all links, and leaves.
@@ -96,6 +98,7 @@ impl Turns {
         let mut pass = registration.collector().pass();
         match self.job {
             Job::Enter | Job::Nested => enter_many(registration, self.turns, rt, &mut pass),
+            Job::EnterOwned => own_many(registration, self.turns, rt, &mut pass),
             Job::Visit => self.visit_many(registration, rt, &mut pass),
             Job::See => see_many(registration, self.turns, rt, &mut pass),
             Job::Retire => retire_many(registration, self.turns, rt, &mut pass),
@@ -140,6 +143,23 @@ fn enter_many<W: Wait>(
 {
     for _ in 0..turns {
         let guard = registration.enter(pass)?;
+        guard.leave(rt, pass);
+    }
+    Ok(turns)
+}
+
+// Makes so many owned guards, one after another, each of which leaves.
+fn own_many<W: Wait>(
+    registration: &Registration<'_, u64>,
+    turns: u64,
+    rt: &W,
+    pass: &mut Pass,
+) -> Result<u64, Refusal>
+    requires { IsPassOf (registered_in registration.now) pass.old }
+{
+    let collector = registration.collector();
+    for _ in 0..turns {
+        let guard = collector.enter_owned(rt, pass)?;
         guard.leave(rt, pass);
     }
     Ok(turns)
