@@ -54,7 +54,7 @@ pub(crate) fn retire<'c, 'a>(
     told: &'a AtomicU64,
     pass: &mut Pass,
 )
-    requires its { registered_in registration.now ≡ collector.now }
+    requires its { registered_in registration.now ≡ its_words collector.now }
     requires pass { IsPassOf (its_words collector.now) pass.old }
     ensures { IsPassOf (its_words collector.now) pass.new }
 {

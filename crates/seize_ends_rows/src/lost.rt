@@ -319,7 +319,8 @@ fn what_is_enough_beside_lost_guards_waits_for_them(rt: HostRuntime) -> Result<(
     Ok(())
 }
 
-// A slot takes what was left, retires 5 and 6 behind it, which is enough now, and ends. It gives its number, and whether that went back.
+// A slot takes what was left, retires 5 and 6 behind it, and ends. With 5, or with 6, it is enough. It gives its number, and whether that
+// went back.
 fn take_on<'a>(
     rt: &impl Wait,
     collector: &Telling<'a>,
@@ -332,8 +333,8 @@ fn take_on<'a>(
     Ok((number, registration.end(rt, &mut pass)))
 }
 
-// The slot that takes what came back retires more, and ends; another one then ends as the last that was not lost. Neither is the last one
-// in use, and nothing ends, also not as all is reclaimed again.
+// The slot that takes what came back retires more, and ends; then another one does. Neither is the last one in use, since lost slots are,
+// and nothing ends, also not as all is reclaimed again.
 #[test]
 fn what_came_back_beside_lost_guards_is_taken_on(rt: HostRuntime) -> Result<(), Fail> {
     for row in TOO_LITTLE {

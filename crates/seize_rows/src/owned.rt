@@ -1,5 +1,6 @@
 //! Owned guards, which threads share and which go from one thread to another.
 ghost use Rattle.std.specs.Prelude.{◌≡◌};
+ghost use Rattle.seize.specs.Collectors.{its_words};
 ghost use Rattle.seize.specs.Guards.{owned_collector};
 
 use crate::guards::collector as linked;
@@ -47,7 +48,7 @@ fn retire<'c, 'a>(
     guard: &OwnedGuard<'c, Counted<'a>>,
     ends: &'a AtomicU64,
 ) -> bool
-    requires { owned_collector guard.now ≡ collector.now }
+    requires { owned_collector guard.now ≡ its_words collector.now }
 {
     let mut pass = collector.pass();
     let Ok(owned) = collector.owned(Counted { ends }) else {
@@ -65,15 +66,15 @@ fn two<'c, 'a, R: Threads + Wait + Sync>(
     guard: &OwnedGuard<'c, Counted<'a>>,
     ends: &'a AtomicU64,
 ) -> bool
-    requires { owned_collector guard.now ≡ collector.now }
+    requires { owned_collector guard.now ≡ its_words collector.now }
 {
     let (one, other) = thread::join(
         rt,
         move || -> bool
-            requires { owned_collector guard.now ≡ collector.now }
+            requires { owned_collector guard.now ≡ its_words collector.now }
         { retire(rt, collector, guard, ends) },
         move || -> bool
-            requires { owned_collector guard.now ≡ collector.now }
+            requires { owned_collector guard.now ≡ its_words collector.now }
         { retire(rt, collector, guard, ends) },
     );
     one && other
@@ -86,15 +87,15 @@ fn four<'c, 'a, R: Threads + Wait + Sync>(
     guard: &OwnedGuard<'c, Counted<'a>>,
     ends: &'a AtomicU64,
 ) -> bool
-    requires { owned_collector guard.now ≡ collector.now }
+    requires { owned_collector guard.now ≡ its_words collector.now }
 {
     let (one, other) = thread::join(
         rt,
         move || -> bool
-            requires { owned_collector guard.now ≡ collector.now }
+            requires { owned_collector guard.now ≡ its_words collector.now }
         { two(rt, collector, guard, ends) },
         move || -> bool
-            requires { owned_collector guard.now ≡ collector.now }
+            requires { owned_collector guard.now ≡ its_words collector.now }
         { two(rt, collector, guard, ends) },
     );
     one && other
