@@ -15,7 +15,8 @@ pub fn audit_waiting(collector: &Collector<u64>, pass: &mut Pass)
     requires pass { IsPassOf (its_words collector.now) pass.old }
     ensures pass { IsPassOf (its_words collector.now) pass.new }
     ensures none { MakesNone pass.old pass.new }
-    ensures waits { let ms = moments_seen pass.new in let st = end_of (opening_of pass.new) ms in is_quiet st ≡ true → (v q : ℕ) → Retired ms v q
+    ensures waits { let ms = moments_seen pass.new in let st = end_of (opening_of pass.new) ms in
+        is_quiet st ≡ true → (v q : ℕ) → Retired ms v q
         → ((c : ℕ) × Reclaimed ms v c) ⊎ WaitsBelow (its_most collector.now) st v }
 {
     collector.laws(pass);

@@ -4,4 +4,4 @@ use Rattle.std.specs.Prelude.{◌≡◌}
 use Rattle.seize_ends_rows.proofs.kinds.retire_five.Given as goal
 
 abbrev pub invariant-loop : goal.invariant-loop
-invariant-loop g l = (owned_collector l.guard ≡ l.collector) × IsPassOf (its_words l.collector) l.pass
+invariant-loop g l = (owned_collector l.guard ≡ its_words l.collector) × IsPassOf (its_words l.collector) l.pass
