@@ -4,7 +4,8 @@
 --     LawsOf st ms            each law of `machine::laws` holds of these events, from this opening state
 --     LawsHold most pass      so it is with those that the pass has seen; and each of them that may fill a batch has at most this size. So
 --                             what `Quiet` says of batches and of the rest, it says of the bound of this size
---     WaitsBelow most st v    the value stands in a slot's batch, or in the rest, which is below the bound of this size
+--     WaitsBelow most st v    the value stands in a slot's batch, which is below the bound of this size, or in the rest, which is below
+--                             that times the number of slots ever made
 --     HaveContents code pass  the name of each value that was ever named there says a content of the type whose code this is
 use Rattle.std.specs.List.{Contains}
 use Rattle.std.specs.Prelude.{◌≡◌, ◌⊎◌, ℕ, ◌*◌, ◌<◌, true, List, length}

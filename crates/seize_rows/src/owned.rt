@@ -23,16 +23,16 @@ fn collector<'a>(alloc: Global, size: usize) -> Result<Counting<'a>, Refusal> {
 }
 
 // A guard on its way to another thread: a closure holds only what has a `Drop`.
-pub(crate) struct Handed<'c, T: Drop>(pub(crate) OwnedGuard<'c, T>);
+struct Handed<'c, 'a>(OwnedGuard<'c, Counted<'a>>);
 
-impl<T: Drop> Drop for Handed<'_, T> {
+impl Drop for Handed<'_, '_> {
     fn drop(self) {
         let Handed(guard) = self;
         guard.forget();
     }
 }
 
-impl<T: Drop> Handed<'_, T> {
+impl Handed<'_, '_> {
     // The guard leaves.
     fn leave(self, rt: &impl Wait) {
         let Handed(guard) = self;
@@ -120,10 +120,7 @@ fn four_threads_share_a_guard(rt: HostRuntime) -> Result<(), Fail> {
 }
 
 // The guard leaves on another thread.
-pub(crate) fn leave_elsewhere<T: Drop + Send + Sync, R: Threads + Wait + Sync>(
-    rt: &R,
-    handed: Handed<'_, T>,
-) {
+fn leave_elsewhere<R: Threads + Wait + Sync>(rt: &R, handed: Handed<'_, '_>) {
     thread::join(rt, move || handed.leave(rt), || {});
 }
 

@@ -5,8 +5,7 @@ ghost use Rattle.seize.specs.Guards.{guard_collector};
 
 use crate::guards::{Counting, collector, retire};
 use crate::meeting;
-use crate::owned::{Handed, leave_elsewhere};
-use seize::{Collector, Guard, IdSource, LocalGuard, Pass};
+use seize::{Collector, Guard, IdSource, LocalGuard, OwnedGuard, Pass};
 use seize_test_kit::telling::{Telling, defer, defer_alone, telling};
 use seize_test_kit::values::{Counted, Digit, ended};
 use std::process::Abort;
@@ -131,6 +130,25 @@ fn what_another_thread_retired_ends_with_the_lone_refresh(rt: HostRuntime) -> Re
     Ok(())
 }
 
+// A guard on its way to another thread: a closure holds only what has a `Drop`.
+struct Handed<'c, 'a>(OwnedGuard<'c, Digit<'a>>);
+
+impl Drop for Handed<'_, '_> {
+    fn drop(self) {
+        let Handed(guard) = self;
+        guard.forget();
+    }
+}
+
+impl Handed<'_, '_> {
+    // The guard leaves.
+    fn leave(self, rt: &impl Wait) {
+        let Handed(guard) = self;
+        let mut pass = guard.collector().pass();
+        guard.leave(rt, &mut pass);
+    }
+}
+
 // Slot 0 retires 1 and 2 while no other slot is active, and 3 while slot 1 is, whose guard leaves first, on another thread.
 fn fill_a_batch<'a, R: Threads + Wait + Sync + Abort>(
     rt: &R,
@@ -144,7 +162,8 @@ fn fill_a_batch<'a, R: Threads + Wait + Sync + Abort>(
     let reader = collector.enter_owned(rt, &mut pass).expect(rt, "memory");
     let guard = writer.enter(&mut pass).expect(rt, "a guard");
     defer(rt, &guard, 3, told, &mut pass);
-    leave_elsewhere(rt, Handed(reader));
+    let reader = Handed(reader);
+    thread::join(rt, move || reader.leave(rt), || {});
     assert_eq!(rt; told.load(Ordering::SeqCst), 0);
     guard.leave(rt, &mut pass);
     assert_eq!(rt; told.load(Ordering::SeqCst), 123);
