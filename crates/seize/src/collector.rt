@@ -322,8 +322,8 @@ impl<T: Drop, R: Reclaim<T>> Collector<T, R> {
     /// The pass looks at the list of events. Every law of the machine holds of what it has seen then, which goes on from what it had seen.
     /// So each value, whoever retired it, is reclaimed there at most once, and only after each slot that was active at its retirement has
     /// left or refreshed. Each of its events that may fill a batch has at most the greatest batch size that the collector ever had, so
-    /// batches at rest are below that size, or below the number of slots (`Quiet`). And each name in it that was ever in a link, or retired,
-    /// says a content of type `T`.
+    /// batches at rest are below that size, or below the number of slots (`Quiet`). And each name in it that was ever in a link, or
+    /// retired, says a content of type `T`.
     ///
     /// Each exchange that was won since the collector was last shared, by whoever, meets the rule of its links (`Puts::keeps`). A call by
     /// `&mut` ends the sharing: `learn`, `reclaim_all`, `alone`. What one caller did with an `Alone` is not among these exchanges, and the
