@@ -237,7 +237,10 @@ fn reclaim_twice<R: Wait + Abort>(
     assert_eq!(rt; told.load(Ordering::SeqCst), 0);
     assert!(rt; !collector.reclaim_all(&mut heard));
     assert_eq!(rt; (heard.all, told.load(Ordering::SeqCst)), (12, 12));
-    assert_eq!(rt; register_two(rt, collector)?, (0, row.lost + 1, true));
+    assert_eq!(rt;
+        register_two(rt, collector)?,
+        (0, row.lost.wrapping_add(1), true)
+    );
     assert!(rt; !collector.reclaim_all(&mut heard));
     assert_eq!(rt; (heard.all, told.load(Ordering::SeqCst)), (12, 12));
     Ok(())
@@ -293,7 +296,10 @@ fn what_is_too_little_beside_lost_guards_comes_back(rt: HostRuntime) -> Result<(
             let mut collector = telling(rt.alloc(), row.size)?;
             put(&rt, &collector, 8, &told)?;
             leave_beside_lost(&rt, &collector, row, way, &told)?;
-            assert_eq!(rt; register(&rt, &collector)?, (row.lost + 1, true));
+            assert_eq!(rt;
+                register(&rt, &collector)?,
+                (row.lost.wrapping_add(1), true)
+            );
             reclaim_twice(&rt, &mut collector, row, &told)?;
             drop(collector);
             assert_eq!(rt; told.load(Ordering::SeqCst), 12);
