@@ -2,10 +2,11 @@
 ghost use Rattle.std.specs.Prelude.{◌≡◌, ◌<◌};
 ghost use Rattle.seize.specs.Collectors.{IsPassOf, its_links, its_words};
 ghost use Rattle.seize.specs.Guards.{guard_collector};
+ghost use Rattle.seize.specs.Registrations.{registered_in};
 
 use crate::guards::{Counting, collector, retire};
 use crate::meeting;
-use seize::{Collector, Guard, IdSource, LocalGuard, OwnedGuard, Pass};
+use seize::{Collector, Guard, IdSource, LocalGuard, OwnedGuard, Pass, Registration};
 use seize_test_kit::telling::{Telling, defer, defer_alone, telling};
 use seize_test_kit::values::{Counted, Digit, ended};
 use std::process::Abort;
@@ -15,16 +16,29 @@ use std::test::*;
 use std::thread;
 use std::thread::Threads;
 
+// A guard of the slot retires five values, and leaves.
+fn retire_under<'a>(
+    rt: &impl Wait,
+    registration: &Registration<'_, Counted<'a>>,
+    ends: &'a AtomicU64,
+    pass: &mut Pass,
+)
+    requires of { IsPassOf (registered_in registration.now) pass.old × (0 < its_links (registered_in registration.now)) }
+    ensures { IsPassOf (registered_in registration.now) pass.new }
+{
+    if let Ok(guard) = registration.enter(pass) {
+        retire(rt, &guard, 6, ends, pass);
+        guard.leave(rt, pass);
+    }
+}
+
 // A slot enters, retires five values and leaves. It says its number.
 fn retire_five<'a>(rt: &impl Wait, collector: &Counting<'a>, ends: &'a AtomicU64) -> Option<usize>
     requires { 0 < its_links (its_words collector.now) }
 {
     let mut pass = collector.pass();
     let registration = collector.register(rt, &mut pass).ok()?;
-    if let Ok(guard) = registration.enter(&mut pass) {
-        retire(rt, &guard, 6, ends, &mut pass);
-        guard.leave(rt, &mut pass);
-    }
+    retire_under(rt, &registration, ends, &mut pass);
     let number = registration.thread_id();
     registration.end(rt, &mut pass);
     Some(number)
