@@ -45,6 +45,7 @@ pub struct Alone<T: Drop + Codes, R: Reclaim<T> = Boxed> {
     // How many slots were made.
     made: usize,
     ender: Box<Ender<T, R>>,
+    id: u64,
     alloc: Global,
     hands: Hands<T>,
 }
@@ -57,8 +58,7 @@ impl<T: Drop + Codes, R: Reclaim<T>> Model for Alone<T, R> {
     ghost view = { λ a. record {
       book = words_book a.words;
       size = a.words.size;
-      most = a.words.sizes.most;
-      id = a.words.id;
+      id = a.id;
       links = length (words_book a.words).links;
       state = a.hands.state;
       held = a.hands.held;
@@ -100,7 +100,7 @@ impl<T: Drop, R: Reclaim<T>> Alone<T, R> {
     pub fn id(&self) -> u64
         ensures { result ≡ self.now.id }
     {
-        self.words.id
+        self.id
     }
 
     /// What the collector's list of events says: it is legal, so every law of the machine holds of it; where it ends no call is under way;
@@ -380,12 +380,13 @@ impl<T: Drop + Codes, R: Reclaim<T>> Drop for Alone<T, R> {
             mut places,
             made: _,
             ender,
+            id,
             alloc,
             hands: _,
         } = self;
         numbers.clear(&words, &ender, &mut places, &mut pass, &mut ());
         words.links.stir();
         // Nothing is left to reclaim, so this ends what the links hold.
-        drop(shared(words, pass, numbers, places, ender, alloc));
+        drop(shared(words, pass, numbers, places, ender, id, alloc));
     }
 }
