@@ -409,9 +409,9 @@ impl<T: Drop, R: Reclaim<T>> Collector<T, R> {
     /// The answer is false, then and later, as tests show, where a registration or a guard is lost: a type that holds it was given to
     /// `mem::forget`. What is in that slot's batch stays. If the slot has a guard, what waits for it or is attempted later stays as well.
     ///
-    /// It takes no memory and waits for nobody, but for what watch and reclaimer do. It takes the lock of the shelf of each number in use.
-    /// Each slot that was forgotten makes two atomic swaps and an attempt of its batch, which looks at the heads of all slots; one that was
-    /// forgotten with a guard makes one swap more. So does one slot for what was left.
+    /// It takes no memory and waits for nobody, but for what watch and reclaimer do. It takes the lock of the shelf of each slot that was
+    /// made. Each slot that was forgotten makes two atomic swaps and an attempt of its batch, which looks at the heads of all slots; one
+    /// that was forgotten with a guard makes one swap more. Where something was left, one slot more makes two swaps and an attempt of that.
     pub fn reclaim_all<W: Watch<T>>(&mut self, watch: &mut W) -> bool
         ensures reclaims { ReclaimsAll self.old self.new result }
         ensures same_reference { watch.exit.ghost_name ≡ watch.entry.ghost_name }
