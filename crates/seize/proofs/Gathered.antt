@@ -24,7 +24,7 @@ use Rattle.seize_words.specs.declared.activation.Activation.{Activation}
 use Rattle.seize_words.specs.declared.words.Words.{Words}
 use Rattle.seize_calls.specs.Handing.{Had}
 use Rattle.seize_calls.proofs.Current.{looked_active, shown}
-use Rattle.seize_calls.specs.Slots.{IsInactive, IsPassFor, IsSlotOf, SlotLooks, SlotResumes, its_number, seen_book}
+use Rattle.seize_calls.specs.Slots.{IsInactive, IsPassOf, IsSlotOf, SlotLooks, SlotResumes, its_number, seen_book}
 use Rattle.seize_calls.specs.declared.slot.Slot.{Slot}
 use Rattle.seize_alone.specs.Calls.{CallsAlone}
 use Rattle.seize_alone.specs.Gone.{PutAs}
@@ -87,7 +87,7 @@ module _ {T Seen : Type 0} (c : Coded T) (puts : ℕ → T → List T) (weight :
       let makes = entry_alone (ready_sole goes.prepares sole1) goes.does refl in
       let number : slot_number slot1.holder.key ≡ s = slot1.together.numbered ∙ at in
       let same2 : IsSamePass p1 p2 = same_twice p1 goes.ready p2 goes.prepares.same makes.same in
-      let for2 : IsPassFor words p2 = still_for words p1 p2 (still_for words pass p1 k.for still.same) same2 in
+      let for2 : IsPassOf words p2 = still_for words p1 p2 (still_for words pass p1 k.for still.same) same2 in
       let same3 : IsSamePass p1 p3 = same_twice p1 p2 p3 same2 (same_twice p2 resumed.ready p3 resumed.prepares.same resumed.does.rests.same) in
       let same : IsSamePass pass p3 = same_twice pass p1 p3 still.same same3 in
       let alone : CallsAlone c puts st hands.names hands.kinds p1 p3 r.0 = record {

@@ -1,16 +1,7 @@
-pub mod Allowing
-pub mod Compared
-pub mod Found
-pub mod Guarded
-pub mod LinkSteps
-pub mod Readable
 mod Lawful
 pub mod Contents
-pub mod Protected
 pub mod Retired
-pub mod Onwards
 pub mod Facts
-pub mod Same
 mod Lone
 mod Fresh
 mod Still

@@ -27,15 +27,15 @@ use Rattle.seize_words.specs.declared.words.Words.{Words}
 use Rattle.seize_calls.specs.Slots.{IsLooseIn, IsLooseOf, IsReadable, its_value}
 use Rattle.seize_calls.specs.declared.slot.Loose.{Loose}
 use Rattle.seize_parts.specs.Blocks.{HasContent, IsNamed, LooseComesOut, content}
-use Rattle.seize.specs.Links.{TakesOut, taken_content}
+use Rattle.seize.specs.Takens.{TakesOut, taken_content}
 use Rattle.seize.specs.Looks.{with_link}
 use Rattle.seize_parts.specs.Places.{IsUnmoved}
 use Rattle.seize_parts.specs.Reservations.{IsUnitIn}
 use Rattle.seize_parts.specs.declared.block.owned.Owned.{Owned}
 use Rattle.seize.specs.declared.block.taken.Taken.{Taken}
 use Rattle.seize.proofs.Facts.{content_once}
-use Rattle.seize.proofs.Found.{none_held}
-use Rattle.seize.proofs.Readable.{swapped_readable}
+use Rattle.seize_parts.proofs.Found.{none_held}
+use Rattle.seize_parts.proofs.Readable.{swapped_readable}
 use Rattle.seize_parts.proofs.Stilled.{alone_from, still_learned}
 
 module _ (n : Name) (s : ℕ) (unit : Activation) (seen : Seen) (its : IsUnitIn n s unit seen) (number : ℕ) (link : Link) (at : link_number link ≡ number) (pass learned : Pass) (sole : IsSole pass.id) (learns : Learns pass seen learned) where

@@ -25,7 +25,7 @@ use Rattle.seize_book.specs.Tokens.{Name, start}
 use Rattle.seize_book.specs.declared.book.pass.Pass.{Pass}
 use Rattle.seize_words.specs.declared.words.Words.{Words}
 use Rattle.seize_calls.specs.Handing.{Had}
-use Rattle.seize_calls.specs.Slots.{IsOfWords, IsPassFor, IsSlotOf, SlotResumes, its_number}
+use Rattle.seize_calls.specs.Slots.{IsOfWords, IsPassOf, IsSlotOf, SlotResumes, its_number}
 use Rattle.seize_calls.specs.declared.slot.Slot.{Slot}
 use Rattle.seize_alone.specs.Calls.{CallsAlone}
 use Rattle.seize_alone.specs.Events.{MakesAlone}
@@ -66,7 +66,7 @@ module _ {T Seen : Type 0} (c : Coded T) (puts : ℕ → T → List T) (weight :
     made : (answer : Answer) × MakesAlone pass p1 (Take n) answer
     made = taken.alone k.sole
 
-    for1 : IsPassFor words p1
+    for1 : IsPassOf words p1
     for1 = still_for words pass p1 k.for made.1.same
 
     key_seen : slot_at (state_seen p1) n ≡ slot_of slot1.holder.key

@@ -1,12 +1,13 @@
 -- What contracts see of a collector in one caller's hands.
---     View T            the name of its list of events, its batch size, its id, how many links it has, its state, as of waiting sets
---                       (`seize_model`), the names of what links hold, and the events of the list
+--     View T            the name of its list of events, its batch size, the greatest that it ever had, its id, how many links it has, its
+--                       state, as of waiting sets (`seize_model`), the names of what links hold, and the events of the list
 --     name_at a l       what the list calls the value that link l holds, if it holds one
 --     view_coded        the code of views, by that of values
---     resized a n       it has this batch size, and else it is the same
+--     resized a n       it has this batch size, the greatest is no less, and else it is the same
 --     opening_in a      the state in which its list of events begins
 --     moments_in a      the events of its list, each with the states before and after it
---     IsSame a a'       it is the same collector: by its list, its batch size, its id and how many links it has
+--     IsSame a a'       it is the same collector: by its list, its batch size, its id, how many links it has, and the greatest batch size
+--                       that it ever had
 --     IsLinkedSame a a'   it is, and each link holds the block that it held
 --     ListGrows a a'    the list goes on: what was there is its beginning
 --     AsListed code a   the list is legal, where it ends no call is under way, and it leads to a machine that shows the state, in which
@@ -17,7 +18,7 @@
 --     IsAlone code words pass numbers places made ender hands     what is so of its parts: all are of one list, which the pass knows. So
 --                       many slots were made. The links stand still, and hold what the state says, and what lies in the places is what it
 --                       says of the slots
-use Rattle.std.specs.Prelude.{◌≡◌, ℕ, List, Option, None, length, slice_index_or, true}
+use Rattle.std.specs.Prelude.{◌≡◌, ℕ, max, List, Option, None, length, slice_index_or, true}
 use mathlib.Core.List.{IsPrefix}
 use mathlib.Core.Path.{refl}
 use base.Stored.{Coded, Gv, coded×, coded_list, coded_ℕ}
@@ -32,7 +33,7 @@ use Rattle.seize_book.specs.Tokens.{IsSole, Name, name_coded, start}
 use Rattle.seize_book.specs.declared.book.pass.Pass.{Pass}
 use Rattle.seize_words.specs.Joined.{words_book}
 use Rattle.seize_words.specs.declared.words.Words.{Words}
-use Rattle.seize_calls.specs.Slots.{IsPassFor}
+use Rattle.seize_calls.specs.Slots.{IsPassOf}
 use Rattle.seize_alone.specs.Holding.{Holds}
 use Rattle.seize_parts.specs.Enders.{IsEnderOf}
 use Rattle.seize_parts.specs.Numbers.{AreNumbers, KnowsLeast}
@@ -47,6 +48,7 @@ use Rattle.seize_parts.specs.declared.numbers.Numbers.{Numbers}
 pub record View (T : Type 0) : Type 0 where
   pub book : Name
   pub size : ℕ
+  pub most : ℕ
   pub id : ℕ
   pub links : ℕ
   pub state : ModelState T ℕ
@@ -55,25 +57,26 @@ pub record View (T : Type 0) : Type 0 where
 
 abbrev pub view_coded : {T : Type 0} → Coded T → Coded (View T)
 view_coded {T} c =
-    code_by (Name × (ℕ × (ℕ × (ℕ × (ModelState T ℕ × (List (Option ℕ) × List Entry))))))
-    (coded× name_coded (coded× coded_ℕ (coded× coded_ℕ (coded× coded_ℕ (coded× (state_coded c coded_ℕ)
-    (coded× (coded_list (coded_option coded_ℕ)) (coded_list entry_coded)))))))
-    (λ a. (a.book, (a.size, (a.id, (a.links, (a.state, (a.held, a.seen)))))))
+    code_by (Name × (ℕ × (ℕ × (ℕ × (ℕ × (ModelState T ℕ × (List (Option ℕ) × List Entry)))))))
+    (coded× name_coded (coded× coded_ℕ (coded× coded_ℕ (coded× coded_ℕ (coded× coded_ℕ (coded× (state_coded c coded_ℕ)
+    (coded× (coded_list (coded_option coded_ℕ)) (coded_list entry_coded))))))))
+    (λ a. (a.book, (a.size, (a.most, (a.id, (a.links, (a.state, (a.held, a.seen))))))))
     (λ x. record {
       book = x.0;
       size = x.1.0;
-      id = x.1.1.0;
-      links = x.1.1.1.0;
-      state = x.1.1.1.1.0;
-      held = x.1.1.1.1.1.0;
-      seen = x.1.1.1.1.1.1;
+      most = x.1.1.0;
+      id = x.1.1.1.0;
+      links = x.1.1.1.1.0;
+      state = x.1.1.1.1.1.0;
+      held = x.1.1.1.1.1.1.0;
+      seen = x.1.1.1.1.1.1.1;
     }) (λ _. refl)
 
 abbrev pub name_at : {T : Type 0} → View T → ℕ → Option ℕ
 name_at a l = slice_index_or a.held l None
 
 abbrev pub resized : {T : Type 0} → View T → ℕ → View T
-resized a n = record a { size = n; state = record a.state { size = n } }
+resized a n = record a { size = n; most = max a.most n; state = record a.state { size = n } }
 
 abbrev pub opening_in : {T : Type 0} → View T → machine.State
 opening_in a = start a.book
@@ -82,10 +85,11 @@ abbrev pub moments_in : {T : Type 0} → View T → List Moment
 moments_in a = moments (opening_in a) a.seen
 
 abbrev pub IsSame : {T : Type 0} → View T → View T → Type 0
-IsSame a a' = (a'.book ≡ a.book) × (a'.size ≡ a.size) × (a'.id ≡ a.id) × (a'.links ≡ a.links)
+IsSame a a' = (a'.book ≡ a.book) × (a'.size ≡ a.size) × (a'.id ≡ a.id) × (a'.links ≡ a.links) × (a'.most ≡ a.most)
 
 abbrev pub IsLinkedSame : {T : Type 0} → View T → View T → Type 0
-IsLinkedSame a a' = (a'.book ≡ a.book) × (a'.size ≡ a.size) × (a'.id ≡ a.id) × (a'.links ≡ a.links) × (a'.held ≡ a.held)
+IsLinkedSame a a' =
+    (a'.book ≡ a.book) × (a'.size ≡ a.size) × (a'.id ≡ a.id) × (a'.links ≡ a.links) × (a'.held ≡ a.held) × (a'.most ≡ a.most)
 
 abbrev pub ListGrows : {T : Type 0} → View T → View T → Type 0
 ListGrows a a' = IsPrefix a.seen a'.seen
@@ -98,7 +102,7 @@ pub record AsListed {T : Type 0} (code : T → Gv) (a : View T) : Type 0 where
   pub holds : Holds code a.state names kinds a.book a.seen
 
 pub record ShowsHands {T : Type 0} (code : T → Gv) (words : Words T) (hands : Hands T) (pass : Pass) : Type 0 where
-  pub for : IsPassFor words pass
+  pub for : IsPassOf words pass
   pub sole : IsSole pass.id
   pub size : hands.state.size ≡ pass.size
   pub distinct : are_distinct (linked_values pass.name.links) ≡ true

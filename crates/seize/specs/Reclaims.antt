@@ -2,7 +2,7 @@
 --     its_state c              the state where the list leads that the collector has seen
 --     moments_of c             the events of that list, each with the states before and after it;  moments_kept known     those that a
 --                              `Seen` keeps of a pass
---     IsSameCollector c c'     it is the same one: its list, its batch size and its id
+--     IsSameCollector c c'     it is the same one: its list, its batch size, its id, and the greatest batch size that it ever had
 --     AddsNothing c seen       nothing was made in this list with the collector's own pass, the first one (0), beyond what it had seen
 --     Learns c c' known        the same collector has seen what the `Seen` has, and no less than before, and added nothing
 --     NoneInUse c              no number is in use, as the collector has seen
@@ -26,7 +26,7 @@ use Rattle.seize_book.specs.Porters.{GoesOnTo}
 use Rattle.seize_book.specs.Tokens.{start}
 use Rattle.seize_book.specs.declared.book.seen.Seen.{Seen}
 use Rattle.seize_calls.specs.Alone.{AllBy}
-use Rattle.seize.specs.Collectors.{its_book, its_id, its_size, seen_by}
+use Rattle.seize.specs.Collectors.{its_book, its_id, its_most, its_size, seen_by}
 use Rattle.seize_parts.specs.Sweeps.{StandsInUse}
 use Rattle.seize.specs.declared.collector.Collector.{Collector}
 
@@ -41,7 +41,8 @@ module _ {T R : Type 0} where
   moments_of c = moments (start (its_book c)) (seen_by c)
 
   abbrev pub IsSameCollector : Collector T R → Collector T R → Type 0
-  IsSameCollector c c' = (its_book c' ≡ its_book c) × (its_size c' ≡ its_size c) × (its_id c' ≡ its_id c)
+  IsSameCollector c c' =
+      (its_book c' ≡ its_book c) × (its_size c' ≡ its_size c) × (its_id c' ≡ its_id c) × (its_most c' ≡ its_most c)
 
   abbrev pub AddsNothing : Collector T R → List Entry → Type 0
   AddsNothing c seen = mine (start (its_book c)) 0 seen ≡ mine (start (its_book c)) 0 (seen_by c)

@@ -45,7 +45,6 @@ pub struct Alone<T: Drop + Codes, R: Reclaim<T> = Boxed> {
     // How many slots were made.
     made: usize,
     ender: Box<Ender<T, R>>,
-    id: u64,
     alloc: Global,
     hands: Hands<T>,
 }
@@ -58,7 +57,8 @@ impl<T: Drop + Codes, R: Reclaim<T>> Model for Alone<T, R> {
     ghost view = { λ a. record {
       book = words_book a.words;
       size = a.words.size;
-      id = a.id;
+      most = a.words.sizes.most;
+      id = a.words.id;
       links = length (words_book a.words).links;
       state = a.hands.state;
       held = a.hands.held;
@@ -100,7 +100,7 @@ impl<T: Drop, R: Reclaim<T>> Alone<T, R> {
     pub fn id(&self) -> u64
         ensures { result ≡ self.now.id }
     {
-        self.id
+        self.words.id
     }
 
     /// What the collector's list of events says: it is legal, so every law of the machine holds of it; where it ends no call is under way;
@@ -380,13 +380,12 @@ impl<T: Drop + Codes, R: Reclaim<T>> Drop for Alone<T, R> {
             mut places,
             made: _,
             ender,
-            id,
             alloc,
             hands: _,
         } = self;
         numbers.clear(&words, &ender, &mut places, &mut pass, &mut ());
         words.links.stir();
         // Nothing is left to reclaim, so this ends what the links hold.
-        drop(shared(words, pass, numbers, places, ender, id, alloc));
+        drop(shared(words, pass, numbers, places, ender, alloc));
     }
 }

@@ -6,17 +6,19 @@ ghost use Rattle.seize_parts.specs.Enders.{IsEnderOf};
 
 mod ids;
 
-use crate::block::Owned;
+use crate::block::{Owned, Unlinked};
 use crate::guard::OwnedGuard;
 use crate::registration::Registration;
 pub use ids::IdSource;
 use seize_cells::Lock;
 use seize_machine::machine;
+use seize_parts::block::{add_block, from_owned};
 use seize_parts::ender::Ender;
 use seize_parts::ending::end_all;
+use seize_parts::holders::{enter_owned, register};
 use seize_parts::numbers::Numbers;
 use seize_parts::numbers::reclaiming::{Heard, Sweeping};
-use seize_parts::numbers::taking::take_slot;
+use seize_parts::parts::{Home, Parts};
 use seize_parts::reclaim::{Boxed, Reclaim, Watch};
 use seize_table::Refusal;
 use seize_words::book::{Pass, Porter, Seen, Stay};
@@ -40,23 +42,24 @@ use std::sync::Wait;
 /// - those in the batch of a lost registration's slot, and if no other slot was made, those in the links too;
 /// - where a guard is lost, or a registration with a guard, what waits for the slot or is attempted later: the slot is active for good.
 pub struct Collector<T: Drop, R: Reclaim<T> = Boxed> {
-    pub(crate) words: Words<T>,
+    // What slots and guards borrow.
+    pub(crate) parts: Parts<T, R>,
+    // Who makes passes, out of their reach.
     pub(crate) porter: Porter,
-    pub(crate) numbers: Lock<Numbers<T>>,
-    // In a box, so that the size of a collector does not depend on it: proofs of calls by a `&` to one ask that it is below 2^63.
-    pub(crate) ender: Box<Ender<T, R>>,
-    pub(crate) id: u64,
     pub(crate) alloc: Global,
-    ghost lends: { (porter.name ≡ words_book words) × (porter.size ≡ words.size) × (porter.home ≡ false) },
-    ghost shared: { AreShared words.links },
-    ghost numbered: { numbers ≡ (words_book words).family },
-    ghost ends: { IsEnderOf words (box_value ender) },
+    ghost lends: { (porter.name ≡ words_book parts.words) × (porter.size ≡ parts.words.size) × (porter.home ≡ false) },
+}
+
+impl<T: Drop, R: Reclaim<T>> Home<T> for Collector<T, R> {
+    ghost use Rattle.seize.specs.Collectors.{its_words};
+
+    ghost its_words = { λ collector. its_words collector };
 }
 
 impl<T: Drop> Collector<T> {
     ghost use Rattle.std.specs.Prelude.{◌+◌, max as greater, IfOk, IfErr};
     ghost use Rattle.std.specs.Int.{IsNextPowerOfTwo};
-    ghost use Rattle.seize.specs.Collectors.{BeginsEmpty, IsRefusalFor, its_id, its_size};
+    ghost use Rattle.seize.specs.Collectors.{BeginsEmpty, IsRefusalFor, its_id, its_most, its_size};
 
     /// A collector with no slot and this many empty links. Its batch size is `max(32, processors)`, rounded up to a power of two. It asks
     /// for the memory of its links, of the entries of its table of slots for so many processors, and of a box for its reclaimer.
@@ -72,7 +75,7 @@ impl<T: Drop> Collector<T> {
         links: usize,
     ) -> Result<Collector<T>, Refusal>
         ensures made { IfOk result (λ made. IsNextPowerOfTwo (greater 32 processors) (its_size made) × BeginsEmpty made links
-            × (its_id made ≡ ids.old) × (ids.new ≡ ids.old + 1)) }
+            × (its_most made ≡ its_size made) × (its_id made ≡ ids.old) × (ids.new ≡ ids.old + 1)) }
         ensures refused { IfErr result (λ refusal. (ids.new ≡ ids.old) × IsRefusalFor processors ids.old refusal) }
     {
         Collector::with_reclaimer(alloc, ids, processors, links, Boxed)
@@ -83,11 +86,11 @@ impl<T: Drop, R: Reclaim<T>> Collector<T, R> {
     ghost use Rattle.std.specs.Prelude.{◌+◌, ◌≤◌, ◌^◌, max as greater, IfOk, IfErr};
     ghost use Rattle.std.specs.Int.{IsNextPowerOfTwo};
     ghost use Rattle.seize_table.specs.declared.refusal.Refusal.TheVariants.{NoMemory as no_memory};
-    ghost use Rattle.seize_parts.specs.Blocks.{content};
-    ghost use Rattle.seize.specs.Collectors.{BeginsEmpty, IsBlockOf, IsNewPassOf, IsPassOf, IsRefusalFor, its_book, its_id, its_links, its_size, its_words, seen_by};
-    ghost use Rattle.seize.specs.Registrations.{registered_in, registered_slot};
+    ghost use Rattle.seize_parts.specs.Blocks.{HasContent, content};
+    ghost use Rattle.seize_parts.specs.Links.{IsUnlinkedOf, unlinked_name};
+    ghost use Rattle.seize.specs.Collectors.{BeginsEmpty, BelongsTo, IsBlockOf, IsNewPassOf, IsPassOf, IsRefusalFor, its_book, its_id, its_links, its_most, its_size, its_words, seen_by};
+    ghost use Rattle.seize_parts.specs.Registrations.{registered_home, registered_in, registered_slot};
     ghost use Rattle.seize_book.specs.Porters.{Shuts};
-    ghost use Rattle.seize_calls.specs.Slots.{IsPassFor};
     ghost use Rattle.seize_parts.specs.Makes.{MakesNone, TakesNumber};
     ghost use Rattle.seize_parts.specs.Puts.{PutBy};
     ghost use Rattle.seize_parts.specs.Numbers.{AreNumbers, IsLockFor};
@@ -106,7 +109,7 @@ impl<T: Drop, R: Reclaim<T>> Collector<T, R> {
         reclaimer: R,
     ) -> Result<Collector<T, R>, Refusal>
         ensures made { IfOk result (λ made. IsNextPowerOfTwo (greater 32 processors) (its_size made) × BeginsEmpty made links
-            × (its_id made ≡ ids.old) × (ids.new ≡ ids.old + 1)) }
+            × (its_most made ≡ its_size made) × (its_id made ≡ ids.old) × (ids.new ≡ ids.old + 1)) }
         ensures refused { IfErr result (λ refusal. (ids.new ≡ ids.old) × IsRefusalFor processors ids.old refusal) }
     {
         let (id, size) = ids.begin(processors)?;
@@ -125,11 +128,11 @@ impl<T: Drop, R: Reclaim<T>> Collector<T, R> {
         reclaimer: R,
     ) -> Result<Collector<T, R>, Refusal>
         requires { processors ≤ 2 ^ 63 }
-        ensures made { IfOk result (λ made. (its_size made ≡ size) × BeginsEmpty made links × (its_id made ≡ id)) }
+        ensures made { IfOk result (λ made. (its_size made ≡ size) × (its_most made ≡ size) × BeginsEmpty made links × (its_id made ≡ id)) }
         ensures refused { IfErr result (λ refusal. refusal ≡ no_memory) }
     {
         let (words, permits, pairs, mut porter, key, next) = Words::new(
-            alloc, processors, links, size,
+            alloc, processors, links, size, id,
         )?;
         let ender = Ender {
             reclaimer,
@@ -141,36 +144,43 @@ impl<T: Drop, R: Reclaim<T>> Collector<T, R> {
         };
         porter.leave_home();
         let numbers = Numbers::new(alloc, key, next, &words.blocks.book, &mut porter.pass());
-        Ok(Collector {
+        let parts = Parts {
             words,
-            porter,
             numbers: Lock::new(numbers),
             ender,
-            id,
+        };
+        Ok(Collector {
+            parts,
+            porter,
             alloc,
         })
     }
 
-    /// With batches of this many values, not rounded. 0 serves as 1.
+    /// With batches of this many values, not rounded. 0 serves as 1. The greatest size that the collector ever had, which bounds batches at
+    /// rest (`laws`), is this one then, if it is greater.
     pub fn batch_size(self, n: usize) -> Collector<T, R>
         ensures same { (its_book result ≡ its_book self) × (seen_by result ≡ seen_by self) × (its_id result ≡ its_id self) }
-        ensures size { its_size result ≡ n }
+        ensures size { (its_size result ≡ n) × (its_most result ≡ greater (its_most self) n) }
     {
         let Collector {
-            mut words,
+            parts,
             mut porter,
-            numbers,
-            ender,
-            id,
             alloc,
         } = self;
-        words.set_size(&mut porter, n);
-        Collector {
-            words,
-            porter,
+        let Parts {
+            mut words,
             numbers,
             ender,
-            id,
+        } = parts;
+        words.set_size(&mut porter, n);
+        let parts = Parts {
+            words,
+            numbers,
+            ender,
+        };
+        Collector {
+            parts,
+            porter,
             alloc,
         }
     }
@@ -183,45 +193,39 @@ impl<T: Drop, R: Reclaim<T>> Collector<T, R> {
         Pass<'static>,
         Numbers<T>,
         Box<Ender<T, R>>,
-        u64,
         Global,
     )
-        ensures words { (words_book result.0 ≡ its_book self) × (result.0.size ≡ its_size self) × AreShared result.0.links }
-        ensures pass { IsPassFor result.0 result.1 × Shuts self.porter result.1 }
+        ensures words { (words_book result.0 ≡ its_book self) × (result.0.size ≡ its_size self) × AreShared result.0.links
+            × (result.0.sizes.most ≡ its_most self) × (result.0.id ≡ its_id self) }
+        ensures pass { IsPassOf result.0 result.1 × Shuts self.porter result.1 }
         ensures numbers { AreNumbers result.2 × IsLockFor result.0 result.2 }
         ensures ender { IsEnderOf result.0 (box_value result.3) }
-        ensures id { result.4 ≡ its_id self }
     {
         let Collector {
-            words,
+            parts,
             porter,
-            numbers,
-            ender,
-            id,
             alloc,
         } = self;
-        (words, porter.shut(), numbers.into_value(), ender, id, alloc)
+        let Parts {
+            words,
+            numbers,
+            ender,
+        } = parts;
+        (words, porter.shut(), numbers.into_value(), ender, alloc)
     }
 
     /// How many links it has.
     pub fn links(&self) -> usize
-        ensures { result ≡ its_links self.now }
+        ensures { result ≡ its_links (its_words self.now) }
     {
-        self.words.links.len()
+        self.parts.words.links.len()
     }
 
     /// The id that its source gave it.
     pub fn id(&self) -> u64
         ensures { result ≡ its_id self.now }
     {
-        self.id
-    }
-
-    // Its reclaimer, for the calls of its slots.
-    pub(crate) fn ender(&self) -> &Ender<T, R>
-        ensures { IsEnderOf (its_words self.now) result.now }
-    {
-        &self.ender
+        self.parts.words.id
     }
 
     /// A new pass, with which nothing was made. It lasts for as long as the collector is shared, and may go to another thread.
@@ -239,12 +243,22 @@ impl<T: Drop, R: Reclaim<T>> Collector<T, R> {
     ///
     /// `NoMemory` where that growth was refused; the value comes back.
     pub fn owned(&self, value: T) -> Result<Owned<T>, (Refusal, T)>
-        ensures made { IfOk result (λ owned. IsBlockOf self.now owned × (content owned ≡ value)) }
+        ensures made { IfOk result (λ owned. IsBlockOf (its_words self.now) owned × (content owned ≡ value)) }
         ensures refused { IfErr result (λ refused. (refused.0 ≡ no_memory) × (refused.1 ≡ value)) }
     {
-        let blocks = &self.words.blocks;
-        let (key, block) = blocks.add(value, &mut self.porter.pass())?;
-        Ok(Owned::of(key, block, &blocks.book))
+        add_block(&self.parts.words, value)
+    }
+
+    /// A block that was never in a link, ready to be retired. The block is of this collector, with each block inside it that the
+    /// reclaimer's `owners` names. No event is made.
+    ///
+    /// It takes no memory and waits for nobody.
+    pub fn unlinked(&self, owned: Owned<T>) -> Unlinked<'_, T>
+        requires { BelongsTo R.owners (its_words self.now) owned }
+        ensures of { IsUnlinkedOf (its_words self.now) result }
+        ensures content { HasContent T.row.coded.code (unlinked_name result) (content owned) }
+    {
+        from_owned(owned, &self.parts)
     }
 
     /// A slot for the calling thread: that of the least number that is not in use. What slots left in their batches as they ended is its
@@ -264,32 +278,24 @@ impl<T: Drop, R: Reclaim<T>> Collector<T, R> {
         rt: &W,
         pass: &mut Pass,
     ) -> Result<Registration<'_, T, R>, Refusal>
-        requires pass { IsPassOf self.now pass.old }
-        ensures made { IfOk result (λ made. (registered_in made ≡ self.now)
+        requires pass { IsPassOf (its_words self.now) pass.old }
+        ensures made { IfOk result (λ made. (registered_in made ≡ its_words self.now) × (registered_home made ≡ self.now)
             × TakesNumber (PutBy T.row.coded.code R.puts) (registered_slot made) pass.old pass.new) }
         ensures refused { IfErr result (λ refusal. MakesNone pass.old pass.new × (refusal ≡ no_memory)) }
     {
-        let (slot, shelf) = take_slot(
-            &self.numbers,
-            rt,
-            &self.words,
-            &self.ender,
-            self.alloc,
-            pass,
-        )?;
-        Ok(Registration::of(self, slot, shelf))
+        register(self, &self.parts, rt, self.alloc, pass)
     }
 }
 
 impl<T: Drop, R: Reclaim<T>> Collector<T, R> {
     ghost use Rattle.std.specs.Prelude.{IfErr, IfOk};
     ghost use Rattle.seize_table.specs.declared.refusal.Refusal.TheVariants.{NoMemory as no_memory};
-    ghost use Rattle.seize.specs.Collectors.{IsPassOf, seen_by};
+    ghost use Rattle.seize.specs.Collectors.{IsPassOf, its_most, its_words, seen_by};
     ghost use Rattle.seize_parts.specs.Laws.{HaveContents, LawsHold};
     ghost use Rattle.seize_parts.specs.Rules.{KeepsSince};
     ghost use Rattle.seize_parts.specs.Makes.{MakesNone, TakesAndEnters};
     ghost use Rattle.seize_parts.specs.Puts.{PutBy};
-    ghost use Rattle.seize.specs.Guards.{owned_collector, owned_slot};
+    ghost use Rattle.seize_parts.specs.Guards.{owned_collector, owned_home, owned_slot};
 
     /// A guard that threads share, with a slot of its own: that of the least number that is not in use, which is taken as `register` takes
     /// it, and then enters. So the guard holds back nothing of what slots left.
@@ -305,25 +311,19 @@ impl<T: Drop, R: Reclaim<T>> Collector<T, R> {
         rt: &W,
         pass: &mut Pass,
     ) -> Result<OwnedGuard<'_, T, R>, Refusal>
-        requires pass { IsPassOf self.now pass.old }
-        ensures made { IfOk result (λ guard. (owned_collector guard ≡ self.now)
+        requires pass { IsPassOf (its_words self.now) pass.old }
+        ensures made { IfOk result (λ guard. (owned_collector guard ≡ its_words self.now) × (owned_home guard ≡ self.now)
             × TakesAndEnters (PutBy T.row.coded.code R.puts) (owned_slot guard) pass.old pass.new) }
         ensures refused { IfErr result (λ refusal. MakesNone pass.old pass.new × (refusal ≡ no_memory)) }
     {
-        let (slot, shelf) = take_slot(
-            &self.numbers,
-            rt,
-            &self.words,
-            &self.ender,
-            self.alloc,
-            pass,
-        )?;
-        Ok(OwnedGuard::enter(self, slot, shelf, pass))
+        enter_owned(self, &self.parts, rt, self.alloc, pass)
     }
 
     /// The pass looks at the list of events. Every law of the machine holds of what it has seen then, which goes on from what it had seen.
     /// So each value, whoever retired it, is reclaimed there at most once, and only after each slot that was active at its retirement has
-    /// left or refreshed. And each name in it that was ever in a link, or retired, says a content of type `T`.
+    /// left or refreshed. Each of its events that may fill a batch has at most the greatest batch size that the collector ever had, so
+    /// batches at rest are below that size, or below the number of slots (`Quiet`). And each name in it that was ever in a link, or
+    /// retired, says a content of type `T`.
     ///
     /// Each exchange that was won since the collector was last shared, by whoever, meets the rule of its links (`Puts::keeps`). A call by
     /// `&mut` ends the sharing: `learn`, `reclaim_all`, `alone`. What one caller did with an `Alone` is not among these exchanges, and the
@@ -331,32 +331,34 @@ impl<T: Drop, R: Reclaim<T>> Collector<T, R> {
     ///
     /// It makes no event, and does nothing when the program runs: its contract is the laws.
     pub fn laws(&self, pass: &mut Pass)
-        requires pass { IsPassOf self.now pass.old }
+        requires pass { IsPassOf (its_words self.now) pass.old }
         ensures none { MakesNone pass.old pass.new }
-        ensures laws { LawsHold pass.new }
+        ensures laws { LawsHold (its_most self.now) pass.new }
         ensures contents { HaveContents T.row.coded.code pass.new }
         ensures rule { KeepsSince T.row.coded.code R.keeps (seen_by self.now) pass.new }
     {
         machine::laws();
-        self.ender.look(&self.porter, pass);
+        self.parts.ender.look(&self.porter, pass);
+        self.parts.words.sizes.bound(pass);
     }
 }
 
 // All slots that nobody has are swept by a pass that is alone.
 #[derive(Drop)]
-struct Sweep<'a, 'n, 'w, T: Drop, R: Reclaim<T>, W> {
+struct Sweep<'a, 'e, 'n, 'w, T: Drop, R: Reclaim<T>, W> {
     words: &'a Words<T>,
-    ender: &'a Ender<T, R>,
+    ender: &'e Ender<T, R>,
     numbers: &'n mut Lock<Numbers<T>>,
     watch: &'w mut W,
 }
 
-impl<'a, 'n, 'w, T: Drop, R: Reclaim<T>, W: Watch<T>> Stay<bool> for Sweep<'a, 'n, 'w, T, R, W> {
+impl<'a, 'e, 'n, 'w, T: Drop, R: Reclaim<T>, W: Watch<T>> Stay<bool>
+    for Sweep<'a, 'e, 'n, 'w, T, R, W> {
     ghost use Rattle.seize_book.specs.Tokens.{IsSole};
-    ghost use Rattle.seize_calls.specs.Slots.{IsPassFor};
+    ghost use Rattle.seize_calls.specs.Slots.{IsPassOf};
     ghost use Rattle.seize_parts.specs.Sweeps.{Sweeps};
 
-    ghost may = { λ sweep pass. IsPassFor sweep.words.now pass × IsSole pass.id × IsEnderOf sweep.words.now sweep.ender.now
+    ghost may = { λ sweep pass. IsPassOf sweep.words.now pass × IsSole pass.id × IsEnderOf sweep.words.now sweep.ender.now
         × (sweep.numbers.now ≡ (words_book sweep.words.now).family) };
 
     ghost gives = { λ sweep sweep' pass pass' result. (sweep'.numbers ≡ sweep.numbers)
@@ -381,7 +383,7 @@ impl<T: Drop, R: Reclaim<T>> Collector<T, R> {
     pub fn seen(&self) -> Seen
         ensures { result.name ≡ its_book self.now }
     {
-        self.words.blocks.book.again()
+        self.parts.words.blocks.book.again()
     }
 
     /// From now on the collector knows all events that the note knows, and all that it knew; so does each pass that it gives. It is there
@@ -416,10 +418,11 @@ impl<T: Drop, R: Reclaim<T>> Collector<T, R> {
         ensures reclaims { ReclaimsAll self.old self.new result }
         ensures same_reference { watch.exit.ghost_name ≡ watch.entry.ghost_name }
     {
+        let parts = &mut self.parts;
         let mut sweep = Sweep {
-            words: &self.words,
-            ender: &self.ender,
-            numbers: &mut self.numbers,
+            words: &parts.words,
+            ender: &parts.ender,
+            numbers: &mut parts.numbers,
             watch: &mut *watch,
         };
         let all = self.porter.stay(&mut sweep);
@@ -440,7 +443,7 @@ impl<T: Drop, R: Reclaim<T>> PartialEq for Collector<T, R> {
     ghost laws = { Prim.search (comparing, rules) };
 
     fn eq(&self, other: &Collector<T, R>) -> bool {
-        self.id == other.id
+        self.id() == other.id()
     }
 }
 
@@ -459,7 +462,7 @@ impl<T: Drop, R: Reclaim<T>> fmt::Debug for Collector<T, R> {
     ghost debug_output = { λ collector. Some (collector_text (its_size collector)) };
 
     fn fmt<W: fmt::Write>(&self, f: &mut fmt::Formatter<W>) -> fmt::Result {
-        let size = self.words.size;
+        let size = self.parts.words.size;
         write!(f, "Collector {{ batch_size: {size} }}")
     }
 }
@@ -467,13 +470,15 @@ impl<T: Drop, R: Reclaim<T>> fmt::Debug for Collector<T, R> {
 impl<T: Drop, R: Reclaim<T>> Drop for Collector<T, R> {
     fn drop(self) {
         let Collector {
-            mut words,
+            parts,
             mut porter,
-            numbers,
-            ender,
-            id: _,
             alloc: _,
         } = self;
+        let Parts {
+            mut words,
+            numbers,
+            ender,
+        } = parts;
         words.set_size(&mut porter, 1);
         end_all(&words, &ender, numbers.into_value(), porter.shut());
     }

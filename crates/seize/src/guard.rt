@@ -1,85 +1,24 @@
-//! Guards: with one, a thread reads links, exchanges what they hold, and retires what came out. While a guard stands, its slot is active.
-//! Both kinds deref to what they have in common (`GuardCore`): the calls that change no slot. `Guard` has the calls that do.
-ghost use Rattle.std.specs.Prelude.{◌≡◌, ◌⊎◌, IfErr, IfOk};
-ghost use Rattle.seize_machine.specs.declared.machine.event.Job.TheVariants.{Flush, Refresh, Retire};
-ghost use Rattle.seize_table.specs.declared.refusal.Refusal.TheVariants.{NoMemory as no_memory};
-ghost use Rattle.seize_parts.specs.Blocks.{content};
-ghost use Rattle.seize.specs.Links.{IsUnlinkedOf, unlinked_name};
-ghost use Rattle.seize.specs.Collectors.{IsBlockOf, IsPassOf};
-ghost use Rattle.seize.specs.Guards.{core_activation, core_collector, core_slot};
-ghost use Rattle.seize_parts.specs.Puts.{PutBy};
-ghost use Rattle.seize_parts.specs.Makes.{Defers, IsOfKind, MakesCall, StaysActive};
-ghost use Rattle.seize.specs.declared.guard.common.GuardCore.{GuardCore};
+//! Guards of a `Collector`: with one, a thread reads links, exchanges what they hold, and retires what came out.
+use crate::collector::Collector;
+pub use seize_parts::guard::Guard;
+use seize_parts::reclaim::Boxed;
 
-mod common;
-pub(crate) mod exchanging;
-mod local;
-mod owned;
+/// What guards of both kinds have in common. Code over any `G: Guard<T>` takes one with `C: Home<T>`, which is `G::At`.
+pub type GuardCore<'c, T, R = Boxed, C = Collector<T, R>> = seize_parts::guard::GuardCore<
+    'c,
+    T,
+    R,
+    C,
+>;
 
-use crate::block::{Owned, Unlinked};
-pub use common::GuardCore;
-pub use local::LocalGuard;
-pub use owned::OwnedGuard;
-use seize_parts::reclaim::Reclaim;
-use seize_table::Refusal;
-use seize_words::book::Pass;
-use std::sync::Wait;
+/// A guard of a registration.
+pub type LocalGuard<'r, 'c, T, R = Boxed> = seize_parts::guard::LocalGuard<
+    'r,
+    'c,
+    T,
+    R,
+    Collector<T, R>,
+>;
 
-/// A guard of a collector, of whichever kind. Links are read and exchanged by its core; here are the calls that change its slot, which
-/// `LocalGuard` makes by its registration and `OwnedGuard` under its lock.
-pub trait Guard<T: Drop> {
-    /// The type of the collector's reclaimer.
-    type Reclaimer: Reclaim<T>;
-
-    /// What it reads and exchanges links with.
-    ghost its_core: { Self → GuardCore T Self.Reclaimer };
-
-    /// What it reads and exchanges links with.
-    fn core(&self) -> &GuardCore<'_, T, Self::Reclaimer>
-        ensures { result.now ≡ its_core self.now };
-
-    /// A block of this value. `LocalGuard` makes it of one of its slot's that is gone, where there is one.
-    ///
-    /// # Errors
-    ///
-    /// `NoMemory` where the store could not grow; the value comes back.
-    fn owned(&self, value: T) -> Result<Owned<T>, (Refusal, T)>
-        ensures made { IfOk result (λ owned. IsBlockOf (core_collector (its_core self.now)) owned × (content owned ≡ value)) }
-        ensures refused { IfErr result (λ refused. (refused.0 ≡ no_memory) × (refused.1 ≡ value)) };
-
-    /// Retires what came out of a link: it joins the slot's batch, which is attempted where it has the batch size or more. The slot is
-    /// active, so no value goes to the reclaimer in the call.
-    ///
-    /// It takes no memory. An insertion is tried again as often as other threads change the head between a look at it and the try. A local
-    /// guard waits for ever within another call of the same registration; an owned guard waits while another thread has its lock.
-    fn defer_retire<W: Wait>(&self, rt: &W, pass: &mut Pass, value: Unlinked<'_, T>)
-        requires of { IsPassOf (core_collector (its_core self.now)) pass.old × IsUnlinkedOf (core_collector (its_core self.now)) value }
-        ensures call { Defers (core_slot (its_core self.now)) (Retire (unlinked_name value.entry)) pass.old pass.new }
-        ensures kind { IsOfKind (unlinked_name value.entry) 0 pass.new };
-
-    /// The same, and says of which kind the value is: see `Registration::retire_as`.
-    fn defer_retire_as<W: Wait>(&self, rt: &W, pass: &mut Pass, value: Unlinked<'_, T>, kind: u64)
-        requires of { IsPassOf (core_collector (its_core self.now)) pass.old × IsUnlinkedOf (core_collector (its_core self.now)) value }
-        ensures call { Defers (core_slot (its_core self.now)) (Retire (unlinked_name value.entry)) pass.old pass.new }
-        ensures kind { IsOfKind (unlinked_name value.entry) kind pass.new };
-
-    /// Attempts the slot's batch at any length. No value goes to the reclaimer in the call, as in `defer_retire`.
-    ///
-    /// It takes no memory and waits as `defer_retire` does.
-    fn flush<W: Wait>(&self, rt: &W, pass: &mut Pass)
-        requires of { IsPassOf (core_collector (its_core self.now)) pass.old }
-        ensures { Defers (core_slot (its_core self.now)) Flush pass.old pass.new };
-
-    /// Ends the slot's activation and begins another, where this is the slot's only guard; beside others it does nothing. What waited for
-    /// the slot is counted down, and what is reclaimed in the call goes to the reclaimer there.
-    ///
-    /// But for what that does, it takes no memory. A local guard waits for ever within another call of the same registration, and else a
-    /// guard waits for nobody.
-    fn refresh<W: Wait>(&mut self, rt: &W, pass: &mut Pass)
-        requires of { IsPassOf (core_collector (its_core self.old)) pass.old }
-        ensures same { (core_collector (its_core self.new) ≡ core_collector (its_core self.old))
-            × (core_slot (its_core self.new) ≡ core_slot (its_core self.old)) }
-        ensures refreshes { MakesCall (PutBy T.row.coded.code Self.Reclaimer.puts) (core_slot (its_core self.old)) Refresh pass.old pass.new
-            ⊎ (StaysActive (core_slot (its_core self.old)) pass.old pass.new
-            × (core_activation (its_core self.new) ≡ core_activation (its_core self.old))) };
-}
+/// A guard with a slot of its own, which threads share.
+pub type OwnedGuard<'c, T, R = Boxed> = seize_parts::guard::OwnedGuard<'c, T, R, Collector<T, R>>;

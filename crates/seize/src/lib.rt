@@ -21,6 +21,7 @@ pub use guard::{Guard, GuardCore, LocalGuard, OwnedGuard};
 pub use registration::Registration;
 pub use seize_machine::machine;
 pub use seize_model::{agreement, waiting};
+pub use seize_parts::parts::Home;
 pub use seize_parts::reclaim::{Boxed, Further, Puts, Reclaim, Watch};
 pub use seize_table::{Labelled, Refusal, thread_id, tls};
 pub use seize_words::book::{Pass, Seen};

@@ -1,6 +1,6 @@
 //! A collector in one caller's hands, and shared again: which values are gone at which call, in which order, and what ends at the drop.
 ghost use Rattle.std.specs.Prelude.{◌<◌, ◌≡◌};
-ghost use Rattle.seize.specs.Links.{IsTakenOf};
+ghost use Rattle.seize.specs.Takens.{IsTakenOf};
 ghost use base.Stored.{coded_unit};
 
 use seize::{Alone, Call, Refusal, Reply, Taken, Watch};

@@ -3,7 +3,7 @@
 ghost use Rattle.std.specs.Prelude.{◌<◌, ◌≡◌, All, IfOk, length};
 ghost use Rattle.seize.specs.Alones.{IsSame};
 ghost use Rattle.seize.specs.Blocks.{Belongs};
-ghost use Rattle.seize.specs.Collectors.{its_links};
+ghost use Rattle.seize.specs.Collectors.{its_links, its_words};
 ghost use Rattle.seize_uses.specs.Nests.{nested_in, nest_owners, nest_weight};
 ghost use Rattle.seize_uses.specs.Weights.{nested_lighter};
 ghost use base.Stored.{coded_unit};
@@ -162,7 +162,7 @@ pub(crate) fn nests<'a>(
     links: usize,
     ends: &'a Ends,
 ) -> Result<Nests<'a>, Refusal>
-    ensures { IfOk result (λ made. its_links made ≡ links) }
+    ensures { IfOk result (λ made. its_links (its_words made) ≡ links) }
 {
     let keeping = Keeping { ends };
     Ok(Collector::with_reclaimer(alloc, &mut IdSource::new(), 1, links, keeping)?.batch_size(size))

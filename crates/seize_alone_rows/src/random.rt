@@ -3,7 +3,7 @@
 //! then the collector is shared and taken over again.
 ghost use Rattle.std.specs.Prelude.{◌≡◌, IfOk, length};
 ghost use Rattle.seize.specs.Alones.{IsSame};
-ghost use Rattle.seize.specs.Links.{IsTakenOf};
+ghost use Rattle.seize.specs.Takens.{IsTakenOf};
 
 use crate::chance::{Chance, LINKS, SLOTS, block};
 use crate::grouped::run_four;

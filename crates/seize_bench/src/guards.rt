@@ -1,15 +1,17 @@
 //! Works of threads that share a collector: each has a registration and guards of its own, or all share one guard. They read links, put
 //! values of new blocks in, and retire what came out, or what was never in a link.
 ghost use Rattle.std.specs.Prelude.{◌≡◌, ◌+◌, ◌≤◌, IfOk};
-ghost use Rattle.seize.specs.Collectors.{its_links};
+ghost use Rattle.seize.specs.Collectors.{its_links, its_words};
 ghost use Rattle.seize.specs.Guards.{owned_collector};
 ghost use Rattle.seize.specs.Registrations.{registered_in};
 
+mod standing;
 mod turns;
 
 use crate::clock::{RUNS, Samples, Span};
 use crate::team::{Team, one_run};
 use seize::{Collector, IdSource, OwnedGuard, Refusal, Registration};
+use standing::stand_all;
 use std::alloc::Global;
 use std::io::ErrorKind;
 use std::rt::Clock;
@@ -37,7 +39,7 @@ fn collector(
     links: usize,
     size: usize,
 ) -> Result<Collector<u64>, Refusal>
-    ensures { IfOk result (λ made. its_links made ≡ links) }
+    ensures { IfOk result (λ made. its_links (its_words made) ≡ links) }
 {
     let made: Collector<u64> = Collector::new(alloc, &mut IdSource::new(), PROCESSORS, links)?;
     let made = made.batch_size(size);
@@ -47,7 +49,7 @@ fn collector(
 
 // A value for each link.
 fn fill(rt: &impl Wait, collector: &Collector<u64>, links: usize) -> Result<(), Refusal>
-    requires { its_links collector.now ≡ links }
+    requires { its_links (its_words collector.now) ≡ links }
 {
     let mut pass = collector.pass();
     let registration = collector.register(rt, &mut pass)?;
@@ -92,7 +94,7 @@ fn part<R: Clock + CpuClock + Wait>(
     collector: &Collector<u64>,
     turns: Turns,
 ) -> io::Result<(Span, u64)>
-    requires { its_links collector.now ≡ 1024 }
+    requires { its_links (its_words collector.now) ≡ 1024 }
 {
     let mut pass = collector.pass();
     let registration = collector.register(rt, &mut pass).map_err(refused)?;
@@ -110,14 +112,44 @@ pub(crate) fn measure<R: Clock + CpuClock + Threads + Wait + Sync>(
     samples: &mut Samples,
 ) -> io::Result<()> {
     let collector = collector(rt, alloc, ROW, turns.size).map_err(refused)?;
-    let collector = &collector;
+    runs(rt, threads, &collector, turns, samples)
+}
+
+/// The same beside so many owned guards that stand from the beginning, and leave in the end.
+pub(crate) fn measure_beside<R: Clock + CpuClock + Threads + Wait + Sync>(
+    rt: &R,
+    threads: u64,
+    alloc: Global,
+    many: u64,
+    turns: Turns,
+    samples: &mut Samples,
+) -> io::Result<()> {
+    let collector = collector(rt, alloc, ROW, turns.size).map_err(refused)?;
+    let standing = stand_all(rt, alloc, &collector, many).map_err(refused)?;
+    let done = runs(rt, threads, &collector, turns, samples);
+    for one in standing {
+        one.leave(rt);
+    }
+    done
+}
+
+// The runs over this collector.
+fn runs<R: Clock + CpuClock + Threads + Wait + Sync>(
+    rt: &R,
+    threads: u64,
+    collector: &Collector<u64>,
+    turns: Turns,
+    samples: &mut Samples,
+) -> io::Result<()>
+    requires { its_links (its_words collector.now) ≡ 1024 }
+{
     for _ in 0..RUNS {
         let team = Team::of(threads);
         let (span, sum) = one_run(
             rt,
             threads,
             &|| -> io::Result<(Span, u64)>
-                requires { its_links collector.now ≡ 1024 }
+                requires { its_links (its_words collector.now) ≡ 1024 }
             { part(rt, &team, collector, turns) },
         )?;
         samples.add(span, threads, turns.count(), sum)?;
@@ -156,7 +188,7 @@ fn shared_run<R: Clock + CpuClock + Threads + Wait + Sync>(
     collector: &Collector<u64>,
     turns: Turns,
 ) -> io::Result<(Span, u64)>
-    requires { its_links collector.now ≡ 1024 }
+    requires { its_links (its_words collector.now) ≡ 1024 }
 {
     let mut pass = collector.pass();
     let guard = collector.enter_owned(rt, &mut pass).map_err(refused)?;
@@ -209,7 +241,7 @@ fn side<R: Clock + CpuClock + Wait>(
     first: usize,
     puts: bool,
 ) -> io::Result<(Span, u64)>
-    requires { first + 16384 ≤ its_links collector.now }
+    requires { first + 16384 ≤ its_links (its_words collector.now) }
 {
     let mut pass = collector.pass();
     let registration = collector.register(rt, &mut pass).map_err(refused)?;
@@ -250,18 +282,18 @@ fn piped<R: Clock + CpuClock + Threads + Wait + Sync>(
     at: usize,
     from: usize,
 ) -> io::Result<(Span, u64)>
-    requires at { at + 16384 ≤ its_links collector.now }
-    requires from { from + 16384 ≤ its_links collector.now }
+    requires at { at + 16384 ≤ its_links (its_words collector.now) }
+    requires from { from + 16384 ≤ its_links (its_words collector.now) }
 {
     let team = Team::of(2);
     let team = &team;
     let (one, two) = thread::join(
         rt,
         move || -> io::Result<(Span, u64)>
-            requires { at + 16384 ≤ its_links collector.now }
+            requires { at + 16384 ≤ its_links (its_words collector.now) }
         { side(rt, team, collector, at, true) },
         move || -> io::Result<(Span, u64)>
-            requires { from + 16384 ≤ its_links collector.now }
+            requires { from + 16384 ≤ its_links (its_words collector.now) }
         { side(rt, team, collector, from, false) },
     );
     let (span, sum) = one?;

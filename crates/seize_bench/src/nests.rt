@@ -7,7 +7,7 @@ ghost use Rattle.seize_uses.specs.Nests.{nest_owners};
 
 use crate::clock::{RUNS, Samples, Span};
 use crate::guards::{RETIRED, refused};
-use seize::{Collector, IdSource, Owned, Pass, Refusal, Registration, Unlinked};
+use seize::{Collector, IdSource, Owned, Pass, Refusal, Registration};
 use seize_uses::nest::{Nest, PutInside};
 use std::alloc::{AllocError, Global};
 use std::io;
@@ -58,7 +58,7 @@ fn retire_pairs<W: Wait>(
 {
     for number in 0..RETIRED {
         let block = pair(holder, alloc, number)?;
-        let block = Unlinked::from_owned(block, holder.collector());
+        let block = holder.collector().unlinked(block);
         holder.retire(rt, pass, block);
     }
     Ok(())

@@ -13,6 +13,9 @@ use std::time::CpuClock;
 /// How many links a thread goes on from one turn to the next where it has 1,024.
 const STEP: u64 = 389;
 
+/// How many owned guards stand in `EnterOwned64`.
+const STANDING: u64 = 64;
+
 /// What is timed.
 #[derive(Clone, Copy)]
 pub(crate) enum Work {
@@ -38,6 +41,10 @@ pub(crate) enum Work {
     Enter,
     /// The same beside a guard that stands.
     Nested,
+    /// An owned guard is made and leaves; nothing is left for it to take.
+    EnterOwned,
+    /// The same beside 64 owned guards that stand, so beside 64 active slots.
+    EnterOwned64,
     /// A registration enters, reads the one link of all threads, and leaves.
     Read1,
     /// The same with 1,024 links, one after the other.
@@ -74,7 +81,7 @@ pub(crate) enum Work {
 }
 
 /// All of them.
-const ALL: [Work; 27] = [
+const ALL: [Work; 29] = [
     Work::Make,
     Work::MakeBare,
     Work::MakeBox,
@@ -86,6 +93,8 @@ const ALL: [Work; 27] = [
     Work::Swap,
     Work::Enter,
     Work::Nested,
+    Work::EnterOwned,
+    Work::EnterOwned64,
     Work::Read1,
     Work::Read1k,
     Work::See1k,
@@ -122,6 +131,8 @@ impl Work {
             Work::Swap => "Swap",
             Work::Enter => "Enter",
             Work::Nested => "Nested",
+            Work::EnterOwned => "EnterOwned",
+            Work::EnterOwned64 => "EnterOwned64",
             Work::Read1 => "Read1",
             Work::Read1k => "Read1k",
             Work::See1k => "See1k",
@@ -167,6 +178,7 @@ impl Work {
         match self {
             Work::Enter => Turns::of(Job::Enter, 50_000, 1),
             Work::Nested => Turns::of(Job::Nested, 100_000, 1),
+            Work::EnterOwned | Work::EnterOwned64 => Turns::of(Job::EnterOwned, 10_000, 1),
             Work::Read1k => Turns::visits(STEP, 32, 0),
             Work::See1k | Work::SharedRead => Turns::see(),
             Work::Update1 => Turns::visits(0, 32, 100),
@@ -212,6 +224,9 @@ impl Work {
             Work::Further => nests::measure(rt, alloc, &mut samples)?,
             Work::UpdateAlone => alone::measure(rt, alloc, &mut samples)?,
             Work::Pipe => guards::pipe(rt, alloc, &mut samples)?,
+            Work::EnterOwned64 => {
+                guards::measure_beside(rt, threads, alloc, STANDING, self.turns(), &mut samples)?
+            }
             Work::SharedRead | Work::SharedUpdate => {
                 guards::measure_shared(rt, threads, alloc, self.turns(), &mut samples)?
             }

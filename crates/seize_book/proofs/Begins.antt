@@ -8,18 +8,19 @@ use base.Share.{quarter, three_quarters, quarters}
 use base.Logic.{SProp, ent, sep, ex, guard, upd, emp, via, upd_i}
 use base.Stored.{Gv, gnil, gcons}
 use base.Fml.{Fml, ftrue, fnamed, fobs, fauth}
-use base.Growing.{latest}
+use base.Growing.{latest, numbers as by_size}
 use types.Logic.{Logic, sem}
 use types.Owned.{basic, named_past}
 use types.Keyed.{entries_new}
 use types.Growing.{latest_new, latest_cut, latest_shows, at_least_dup}
-use types.Kit.{‵, raw, ◌⊛◌, some, given, later, ◌$◌, ◌∵◌, !, qed, move, split, fsplit, fjoin, fpack, pick, learn, show, check, rewrite, suffices, settle, done, drop, use0, use1, use2, use3, updating, await, now}
+use types.Kit.{‵, raw, ◌⊛◌, some, given, later, ◌$◌, ◌∵◌, !, qed, move, split, split3, fsplit, fjoin, fpack, pick, learn, show, check, rewrite, suffices, settle, done, drop, use0, use1, use2, use3, updating, await, now}
 use types.Tokens.{name_new}
 use denote.Steps.{nothing}
 use Rattle.seize_machine.specs.Machine.State.{State, has, linked_values, are_distinct, opening}
 use Rattle.seize_book.specs.Ledger.{HeldKey, logs, halved, roster, rosters, rights, reached, row, HoldsRows, AllBelow, AreNextNumbers, more_by, more_of, keys_made}
 use Rattle.seize_book.specs.Entry.{Entry, entry_coded}
 use Rattle.seize_book.specs.Book.{HolderKnows, IsKeyCount, mine, kind_of, rules, passes, numbers, slots, heads, links, totals, kinds}
+use Rattle.seize_book.specs.Bounds.{AllWithin, bound_at, first_sizes, had_size, sets_size, size_part}
 use Rattle.seize_book.specs.Homes.{IsSound}
 use Rattle.seize_book.specs.Loans.{AllCarryOne}
 use Rattle.seize_book.specs.Tokens.{Name, Gate, all_but, gate_share, rows, start, inside, beside, has_family, free_family, name_coded, gate_keeps, gate_gives, all_lead, all_lie, rights_own, keys_own, pass_at, pass_holds}
@@ -125,18 +126,23 @@ module _ {M : Type 1} {𝓤 : Ura M} (𝓛 : Logic 𝓤) where
   no_links m l (suc n) = (refl, no_links m (suc l) n)
 
   -- the gate is shut, and the first pass has its copy of the list
-  abbrev Opened : Gate → Pr
-  Opened g = ⟦ gate_keeps g [] ⟧ ∗ ⟦ gate_gives g 0 [] ⟧
+  abbrev Opened : ℕ → Gate → Pr
+  Opened size g = ⟦ gate_keeps g [] ⟧ ∗ ⟦ gate_gives g 0 [] ⟧ ∗ ⟦ first_sizes g.sizes size ⟧
 
-  opened : emp 𝓤 ⊢ upd 𝓤 (ex 𝓤 Opened)
-  opened = let Z : Pr = ex 𝓤 Opened in
+  opened : (size : ℕ) → emp 𝓤 ⊢ upd 𝓤 (ex 𝓤 (Opened size))
+  opened size = let Z : Pr = ex 𝓤 (Opened size) in
       qed 𝓛 [] ∵ use0 𝓛 (raw (upd 𝓤 (ex 𝓤 (λ (η : ℕ). ⟦ latest (logs entry_coded) full_share η [] ⟧)))) (latest_new (logs entry_coded) 𝓛 []) $
       settle 𝓛 Z (some (λ (η : ℕ). ‵ (latest (logs entry_coded) full_share η []))) $ pick ! (λ η.
-      use0 𝓛 (raw (upd 𝓤 (ex 𝓤 (λ (κ : ℕ). ⟦ all_but κ 0 ⟧)))) (all_back 𝓛) $ settle 𝓛 Z (some (λ (κ : ℕ). ‵ (all_but κ 0))) $ pick ! (λ κ. suffices ! _ (upd_i 𝓤 Z) $ move ! (1 ∷ []) $
+      use0 𝓛 (raw (upd 𝓤 (ex 𝓤 (λ (κ : ℕ). ⟦ all_but κ 0 ⟧)))) (all_back 𝓛) $ settle 𝓛 Z (some (λ (κ : ℕ). ‵ (all_but κ 0))) $ pick ! (λ κ.
+      use0 𝓛 (raw (upd 𝓤 (ex 𝓤 (λ (γ : ℕ). ⟦ size_part γ size full_share ⟧)))) (latest_new by_size 𝓛 size) $ settle 𝓛 Z (some (λ (γ : ℕ). ‵ (size_part γ size full_share))) $ pick ! (λ γ. suffices ! _ (upd_i 𝓤 Z) $
+      use1 𝓛 (‵ (size_part γ size full_share) ⊛ ‵ (had_size γ size)) (latest_shows by_size 𝓛 full_share γ size size (by_size.same size)) $ split ! $
+      use1 𝓛 (‵ (size_part γ size quarter) ⊛ ‵ (sets_size γ size)) (latest_cut by_size 𝓛 full_share quarter three_quarters γ size quarters) $ split ! $
+      -- [the book's part of the size; the rest; that it is one; the tickets; the list]
+      nothing ! $ fpack ! (AllWithin size []) (λ _. ftrue) tt $ move ! (1 ∷ 0 ∷ []) $ fjoin ! $ fpack ! ℕ (bound_at γ []) size $ move ! (2 ∷ 1 ∷ []) $ fjoin ! $ move ! (3 ∷ []) $
       use1 𝓛 (‵ (latest (logs entry_coded) quarter η []) ⊛ ‵ (latest (logs entry_coded) three_quarters η [])) (latest_cut (logs entry_coded) 𝓛 full_share quarter three_quarters η [] quarters) $ split ! $
-      -- [the book's share; the pass's; the tickets]
-      let g : Gate = record { copy = η; tickets = κ } in
-      move ! (0 ∷ 2 ∷ []) $ fjoin ! $ fpack ! Bool (gate_share g []) true $ show ! Opened g $ done !))
+      -- [the book's share; the pass's; the sizes; the bound; the tickets]
+      let g : Gate = record { copy = η; tickets = κ; sizes = γ } in
+      move ! (0 ∷ 4 ∷ []) $ fjoin ! $ fpack ! Bool (gate_share g []) true $ move ! (3 ∷ 0 ∷ []) $ fjoin ! $ show ! (Opened size) g $ done !)))
 
   -- the keys of one kind, under a new name
   abbrev fresh_row : types.Kit.Item 𝓤
@@ -145,9 +151,9 @@ module _ {M : Type 1} {𝓤 : Ura M} (𝓛 : Logic 𝓤) where
   fresh : emp 𝓤 ⊢ H.⇛ (ex 𝓤 (λ (δ : ℕ). ⟦ roster entry_coded δ 0 [] ⟧))
   fresh = via 𝓤 _ (entries_new (halved entry_coded) 𝓛 0 (λ _. (full_share, []))) (basic 𝓛 _)
 
-  module _ (n : ℕ) (store table : List ℕ) (permits pairs : ℕ) where
+  module _ (n : ℕ) (store table : List ℕ) (permits pairs size : ℕ) where
     abbrev pub Begun : ℕ → Name → Pr
-    Begun f m = guard 𝓤 ((m.family ≡ f) × (m.permits ≡ permits) × (m.pairs ≡ pairs) × BeganWith m n store table) (⟦ book_owns m [] ⟧ ∗ ⟦ pass_holds m 0 [] ⟧ ∗ ⟦ keys_own m (first_keys n) ⟧)
+    Begun f m = guard 𝓤 ((m.family ≡ f) × (m.permits ≡ permits) × (m.pairs ≡ pairs) × BeganWith m n store table) (⟦ book_owns m [] ⟧ ∗ ⟦ pass_holds m 0 [] ⟧ ∗ ⟦ keys_own m (first_keys n) ⟧ ∗ ⟦ first_sizes m.gate.sizes size ⟧)
 
     pub begins : (f : ℕ) → ⟦ free_family f ⟧ ⊢ H.⇛ (ex 𝓤 (Begun f))
     begins f = qed 𝓛 (‵ (free_family f) ∷ []) ∵ updating ! $ fsplit ! $
@@ -162,7 +168,8 @@ module _ {M : Type 1} {𝓤 : Ura M} (𝓛 : Logic 𝓤) where
         use1 𝓛 (‵ (latest (logs entry_coded) full_share η []) ⊛ ‵ (reached entry_coded η [])) (latest_shows (logs entry_coded) 𝓛 full_share η [] [] ([], refl)) $ split ! $
         move ! (1 ∷ []) $ use1 𝓛 (‵ (reached entry_coded η []) ⊛ ‵ (reached entry_coded η [])) (at_least_dup (logs entry_coded) 𝓛 η []) $ split ! $
         -- [nothing was reached, twice; the list; the rosters]
-        use0 𝓛 (later (some (λ (g : Gate). ‵ (gate_keeps g []) ⊛ ‵ (gate_gives g 0 [])))) (via 𝓤 _ opened (basic 𝓛 _)) $ await ! tt $ pick ! (λ g. split ! $
+        use0 𝓛 (later (some (λ (g : Gate). ‵ (gate_keeps g []) ⊛ ‵ (gate_gives g 0 []) ⊛ ‵ (first_sizes g.sizes size)))) (via 𝓤 _ (opened size) (basic 𝓛 _)) $ await ! tt $ pick ! (λ g. split3 ! $
+        move ! (0 ∷ 1 ∷ 3 ∷ 4 ∷ 5 ∷ 6 ∷ 7 ∷ 8 ∷ 2 ∷ []) $
         let n₀ : Name = record {
           number = 0;
           log = η;
@@ -184,7 +191,7 @@ module _ {M : Type 1} {𝓤 : Ura M} (𝓛 : Logic 𝓤) where
           slots = 0;
           links = empty n;
         } in let st : State = start n₀ in let bs : List (ℕ × ℕ) = firsts n in
-        -- [the book's copy; the pass's; nothing was reached, twice; the list; the rosters]
+        -- [the book's copy; the pass's; nothing was reached, twice; the list; the rosters; the family, in two; the sizes]
         move ! (5 ∷ []) $ use1 𝓛 (later (‵ (rosters entry_coded (rows n₀) (grown [] bs [])) ⊛ ‵ (rights entry_coded (rows n₀) (keys_made bs []))))
         (via 𝓤 _ (borns entry_coded (rules st) (beside n₀) η (rows n₀) 𝓛 [] bs [] (omega arith, (omega arith, (omega arith, (omega arith, (omega arith, below_links 0 n))))) (refl, (refl, (refl, (refl, (refl, next_links 0 n sizes_before refl)))))) (basic 𝓛 _)) $ await ! tt $ split ! $
         -- [the rosters; the rights; the book's copy; the pass's; nothing was reached, twice; the list]
@@ -203,7 +210,7 @@ module _ {M : Type 1} {𝓤 : Ura M} (𝓛 : Logic 𝓤) where
         move ! (4 ∷ 0 ∷ []) $ fjoin ! $ move ! (4 ∷ 0 ∷ []) $ fjoin ! $ move ! (1 ∷ 0 ∷ []) $ fjoin ! $ fpack ! (List Entry) (pass_at m 0 []) [] $
         rewrite ! 1 (λ (hs : List (HeldKey Entry)). ‵ (rights_own m (new_key numbers 0 ∷ new_key totals 0 ∷ new_key slots 0 ∷ new_key heads 0 ∷ hs))) (born_links 0 n) refl $
         move ! (1 ∷ []) $ use1 𝓛 (‵ (keys_own m (first_keys n))) (free_own 𝓛 m (first_keys n) (refl, (refl, (refl, (refl, no_links m 0 n))))) $
-        now ! $ show ! (Begun f) m $ check ! (refl, refl, refl, (refl, refl, refl, refl)) $ move ! (2 ∷ 1 ∷ 0 ∷ []) $ done !)))))))))))))
+        now ! $ show ! (Begun f) m $ check ! (refl, refl, refl, (refl, refl, refl, refl)) $ move ! (2 ∷ 1 ∷ 0 ∷ 3 ∷ []) $ done !)))))))))))))
 
   -- a family that no book has
   pub new_family : emp 𝓤 ⊢ H.⇛ (ex 𝓤 (λ (f : ℕ). ⟦ free_family f ⟧))

@@ -1,5 +1,6 @@
--- The first pass has a copy of the list, and the book has one; and how a porter comes home, and goes off. Assumes `Logic`.
-use Rattle.std.proofs.Common.{◌≡◌, ℕ, zero, suc, ◌-◌, ◌≤◌, Bool, true, false, List, [], ◌∷◌, refl, sym}
+-- The first pass has a copy of the list, and the book has one; and how a porter comes home, and goes off. What is appended is within the
+-- greatest size. Assumes `Logic`.
+use Rattle.std.proofs.Common.{◌≡◌, ℕ, zero, suc, ◌-◌, ◌≤◌, Bool, true, false, List, [], ◌∷◌, ◌++◌, refl, sym}
 use mathlib.Core.List.{IsPrefix}
 use mathlib.Core.Option as Maybe
 use seplogic.Ra.Ura.{Ura}
@@ -16,7 +17,9 @@ use types.Kit.{‵, raw, ◌⊛◌, given, ◌$◌, ◌∵◌, !, qed, by, move,
 use denote.Steps.{nothing}
 use Rattle.seize_book.specs.Ledger.{logs}
 use Rattle.seize_book.specs.Entry.{Entry, entry_coded}
-use Rattle.seize_book.specs.Tokens.{Gate, IsSole, all_but, gate_keeps, gate_gives, gate_leaves, one_out, gate_share}
+use Rattle.seize_book.specs.Bounds.{OneWithin, bounded, had_size}
+use Rattle.seize_book.specs.Tokens.{Gate, IsSole, all_but, gate_keeps, gate_gives, gate_leaves, gate_stands, one_out, gate_share}
+use Rattle.seize_book.proofs.Bounds.{bound_push}
 use Rattle.seize_book.proofs.Tickets.{all_once, comes_back, goes_out, none_back}
 
 module _ {M : Type 1} {𝓤 : Ura M} (𝓛 : Logic 𝓤) where
@@ -50,11 +53,17 @@ module _ {M : Type 1} {𝓤 : Ura M} (𝓛 : Logic 𝓤) where
       move ! (0 ∷ 2 ∷ []) $ fjoin ! $ done !)
   in_turn g log seen false = more_than_all (guard 𝓤 (log ≡ seen) (⟦ gate_share g log false ⟧ ∗ ⟦ copy three_quarters g.copy seen ⟧)) three_quarters g.copy log seen
 
-  pub agrees : (g : Gate) (p : ℕ) (log seen : List Entry) → ⟦ gate_keeps g log ⟧ ∗ ⟦ gate_gives g p seen ⟧ ⊢ guard 𝓤 (IsSole p → log ≡ seen) (⟦ gate_keeps g log ⟧ ∗ ⟦ gate_gives g p seen ⟧)
-  agrees g zero log seen = qed 𝓛 (‵ (gate_keeps g log) ∷ ‵ (gate_gives g zero seen) ∷ []) ∵ fpick ! (λ b.
+  agrees_so : (g : Gate) (p : ℕ) (log seen : List Entry) → ⟦ gate_stands g log ⟧ ∗ ⟦ gate_gives g p seen ⟧ ⊢ guard 𝓤 (IsSole p → log ≡ seen) (⟦ gate_stands g log ⟧ ∗ ⟦ gate_gives g p seen ⟧)
+  agrees_so g zero log seen = qed 𝓛 (‵ (gate_stands g log) ∷ ‵ (gate_gives g zero seen) ∷ []) ∵ fpick ! (λ b.
       use2 𝓛 (given (log ≡ seen) (‵ (gate_share g log b) ⊛ ‵ (copy three_quarters g.copy seen))) (in_turn g log seen b) $ learn ! (λ e. check ! (λ _. e) $ split ! $
       fpack ! Bool (gate_share g log) b $ done !))
-  agrees g (suc p) log seen = qed 𝓛 (‵ (gate_keeps g log) ∷ ‵ (gate_gives g (suc p) seen) ∷ []) ∵ check ! (λ x. absurd (let no : suc p ≡ 0 = x in cc)) $ done !
+  agrees_so g (suc p) log seen = qed 𝓛 (‵ (gate_stands g log) ∷ ‵ (gate_gives g (suc p) seen) ∷ []) ∵ check ! (λ x. absurd (let no : suc p ≡ 0 = x in cc)) $ done !
+
+  pub agrees : (g : Gate) (p : ℕ) (log seen : List Entry) → ⟦ gate_keeps g log ⟧ ∗ ⟦ gate_gives g p seen ⟧ ⊢ guard 𝓤 (IsSole p → log ≡ seen) (⟦ gate_keeps g log ⟧ ∗ ⟦ gate_gives g p seen ⟧)
+  agrees g p log seen = qed 𝓛 (‵ (gate_keeps g log) ∷ ‵ (gate_gives g p seen) ∷ []) ∵ fsplit ! $ move ! (1 ∷ 2 ∷ []) $
+      use2 𝓛 (given (IsSole p → log ≡ seen) (‵ (gate_stands g log) ⊛ ‵ (gate_gives g p seen))) (agrees_so g p log seen) $ learn ! (λ e. check ! e $ split ! $
+      -- [who may append; the pass's; the bound]
+      move ! (2 ∷ 0 ∷ []) $ fjoin ! $ done !)
 
   -- they grow with the list
   both_grow : (η : ℕ) (log seen log' : List Entry) → IsPrefix log log' → log ≡ seen → ⟦ copy quarter η log ⟧ ∗ ⟦ copy three_quarters η seen ⟧ ⊢ upd 𝓤 (⟦ copy quarter η log' ⟧ ∗ ⟦ copy three_quarters η log' ⟧)
@@ -65,7 +74,7 @@ module _ {M : Type 1} {𝓤 : Ura M} (𝓛 : Logic 𝓤) where
       by ! (latest_cut l 𝓛 full_share quarter three_quarters η log' quarters)
 
   abbrev Follows : Gate → ℕ → List Entry → Pr
-  Follows g p log' = ⟦ gate_keeps g log' ⟧ ∗ ⟦ gate_gives g p log' ⟧
+  Follows g p log' = ⟦ gate_stands g log' ⟧ ∗ ⟦ gate_gives g p log' ⟧
 
   first_follows : (g : Gate) (log seen log' : List Entry) (b : Bool) → IsPrefix log log' → log ≡ seen → ⟦ gate_share g log b ⟧ ∗ ⟦ copy three_quarters g.copy seen ⟧ ⊢ upd 𝓤 (Follows g 0 log')
   first_follows g log seen log' true p e = let Z : Pr = Follows g 0 log' in qed 𝓛 (‵ (gate_share g log true) ∷ ‵ (copy three_quarters g.copy seen) ∷ []) ∵ fsplit ! $ move ! (0 ∷ 2 ∷ []) $
@@ -81,9 +90,18 @@ module _ {M : Type 1} {𝓤 : Ura M} (𝓛 : Logic 𝓤) where
       use1 𝓛 (raw (upd 𝓤 ⟦ copy full_share g.copy log' ⟧)) (latest_grows (logs entry_coded) 𝓛 g.copy log log' p) $ settle 𝓛 Z (‵ (copy full_share g.copy log')) $ suffices ! _ (upd_i 𝓤 Z) $
       fpack ! Bool (gate_share g log') false $ done !
 
-  pub follows : (g : Gate) (p : ℕ) (log seen log' : List Entry) → IsPrefix log log' → (IsSole p → log ≡ seen) → ⟦ gate_keeps g log ⟧ ∗ ⟦ gate_gives g p seen ⟧ ⊢ upd 𝓤 (Follows g p log')
-  follows g zero log seen log' more e = qed 𝓛 (‵ (gate_keeps g log) ∷ ‵ (gate_gives g zero seen) ∷ []) ∵ fpick ! (λ b. by ! (first_follows g log seen log' b more (e refl)))
-  follows g (suc q) log seen log' more e = qed 𝓛 (‵ (gate_keeps g log) ∷ ‵ (gate_gives g (suc q) seen) ∷ []) ∵ fpick ! (λ b. by ! (one_follows g q log seen log' b more))
+  follows_so : (g : Gate) (p : ℕ) (log seen log' : List Entry) → IsPrefix log log' → (IsSole p → log ≡ seen) → ⟦ gate_stands g log ⟧ ∗ ⟦ gate_gives g p seen ⟧ ⊢ upd 𝓤 (Follows g p log')
+  follows_so g zero log seen log' more e = qed 𝓛 (‵ (gate_stands g log) ∷ ‵ (gate_gives g zero seen) ∷ []) ∵ fpick ! (λ b. by ! (first_follows g log seen log' b more (e refl)))
+  follows_so g (suc q) log seen log' more e = qed 𝓛 (‵ (gate_stands g log) ∷ ‵ (gate_gives g (suc q) seen) ∷ []) ∵ fpick ! (λ b. by ! (one_follows g q log seen log' b more))
+
+  -- the event is within a size that the book had
+  pub follows : (g : Gate) (p size : ℕ) (log seen : List Entry) (e : Entry) → OneWithin size e → (IsSole p → log ≡ seen)
+      → ⟦ gate_keeps g log ⟧ ∗ ⟦ gate_gives g p seen ⟧ ∗ ⟦ had_size g.sizes size ⟧ ⊢ upd 𝓤 (⟦ gate_keeps g (log ++ e ∷ []) ⟧ ∗ ⟦ gate_gives g p (log ++ e ∷ []) ⟧)
+  follows g p size log seen e within alone = let log' : List Entry = log ++ e ∷ [] in let Z : Pr = ⟦ gate_keeps g log' ⟧ ∗ ⟦ gate_gives g p log' ⟧ in
+      qed 𝓛 (‵ (gate_keeps g log) ∷ ‵ (gate_gives g p seen) ∷ ‵ (had_size g.sizes size) ∷ []) ∵ fsplit ! $ move ! (0 ∷ 3 ∷ []) $ use2 𝓛 (‵ (bounded g.sizes log')) (bound_push 𝓛 g.sizes size log e within) $
+      -- [the bound; who may append; the pass's]
+      move ! (1 ∷ 2 ∷ []) $ use2 𝓛 (raw (upd 𝓤 (Follows g p log'))) (follows_so g p log seen log' (e ∷ [], refl) alone) $ settle 𝓛 Z (‵ (gate_stands g log') ⊛ ‵ (gate_gives g p log')) $ split ! $ suffices ! _ (upd_i 𝓤 Z) $
+      move ! (2 ∷ 0 ∷ []) $ fjoin ! $ done !
 
   pub gives_as : (g : Gate) (p : ℕ) (a b : List Entry) → (IsSole p → a ≡ b) → ⟦ gate_gives g p a ⟧ ⊢ ⟦ gate_gives g p b ⟧
   gives_as g zero a b e = qed 𝓛 (‵ (gate_gives g zero a) ∷ []) ∵ rewrite ! 0 (λ (x : List Entry). ‵ (gate_gives g zero x)) (e refl) refl $ done !
@@ -92,6 +110,9 @@ module _ {M : Type 1} {𝓤 : Ura M} (𝓛 : Logic 𝓤) where
   -- The porter comes home, and goes out again; at home it has what the first pass has.
 
   -- it has seen the whole list, where it is at home
+  abbrev Stood : Gate → Bool → List Entry → List Entry → Pr
+  Stood g home log seen = guard 𝓤 (home ≡ true → log ≡ seen) (⟦ gate_stands g log ⟧ ∗ ⟦ gate_leaves g true 0 log ⟧)
+
   abbrev pub Stands : Gate → Bool → List Entry → List Entry → Pr
   Stands g home log seen = guard 𝓤 (home ≡ true → log ≡ seen) (⟦ gate_keeps g log ⟧ ∗ ⟦ gate_leaves g true 0 log ⟧)
 
@@ -104,36 +125,44 @@ module _ {M : Type 1} {𝓤 : Ura M} (𝓛 : Logic 𝓤) where
   opens_home : (g : Gate) (out : ℕ) (seen : List Entry) → ⟦ gate_leaves g true out seen ⟧ ⊢ guard 𝓤 (out ≡ 0) ⟦ at_home g.copy seen ⟧
   opens_home g out seen = qed 𝓛 (‵ (gate_leaves g true out seen) ∷ []) ∵ fsplit ! $ move ! (1 ∷ []) $ fpick ! (λ none. drop ! $ check ! none $ done !)
 
-  all_in : (g : Gate) (log : List Entry) (b : Bool) → ⟦ gate_share g log b ⟧ ∗ ⟦ all_but g.tickets 0 ⟧ ⊢ ⟦ gate_keeps g log ⟧ ∗ ⟦ at_home g.copy log ⟧
+  all_in : (g : Gate) (log : List Entry) (b : Bool) → ⟦ gate_share g log b ⟧ ∗ ⟦ all_but g.tickets 0 ⟧ ⊢ ⟦ gate_stands g log ⟧ ∗ ⟦ at_home g.copy log ⟧
   all_in g log true = qed 𝓛 (‵ (gate_share g log true) ∷ ‵ (all_but g.tickets 0) ∷ []) ∵ fsplit ! $ move ! (1 ∷ 2 ∷ []) $ use2 𝓛 (given ⊥ (‵ ftrue)) (all_once 𝓛 g.tickets (guard 𝓤 ⊥ ⟦ ftrue ⟧) 0 0) $ learn ! (λ x. absurd x)
   all_in g log false = qed 𝓛 (‵ (gate_share g log false) ∷ ‵ (all_but g.tickets 0) ∷ []) ∵
       use1 𝓛 (‵ (copy quarter g.copy log) ⊛ ‵ (at_home g.copy log)) (latest_cut (logs entry_coded) 𝓛 full_share quarter three_quarters g.copy log quarters) $ split ! $
       move ! (0 ∷ 2 ∷ []) $ fjoin ! $ fpack ! Bool (gate_share g log) true $ done !
 
-  pub comes_home : (g : Gate) (home : Bool) (log seen : List Entry) → ⟦ gate_keeps g log ⟧ ∗ ⟦ gate_leaves g home 0 seen ⟧ ⊢ Stands g home log seen
-  comes_home g true log seen = qed 𝓛 (‵ (gate_keeps g log) ∷ ‵ (gate_leaves g true 0 seen) ∷ []) ∵ move ! (1 ∷ []) $
+  home_so : (g : Gate) (home : Bool) (log seen : List Entry) → ⟦ gate_stands g log ⟧ ∗ ⟦ gate_leaves g home 0 seen ⟧ ⊢ Stood g home log seen
+  home_so g true log seen = qed 𝓛 (‵ (gate_stands g log) ∷ ‵ (gate_leaves g true 0 seen) ∷ []) ∵ move ! (1 ∷ []) $
       use1 𝓛 (given (zero ≡ zero) (‵ (at_home g.copy seen))) (opens_home g 0 seen) $ learn ! (λ _. move ! (1 ∷ []) $ fpick ! (λ b. move ! (0 ∷ 1 ∷ []) $
       use2 𝓛 (given (log ≡ seen) (‵ (gate_share g log b) ⊛ ‵ (at_home g.copy seen))) (in_turn g log seen b) $ learn ! (λ e. split ! $ fpack ! Bool (gate_share g log) b $
       move ! (1 ∷ []) $ rewrite ! 0 (λ (x : List Entry). ‵ (at_home g.copy x)) (sym e) refl $ use1 𝓛 (‵ (gate_leaves g true 0 log)) (packs_home g log) $
       check ! (λ _. e) $ move ! (1 ∷ 0 ∷ []) $ done !)))
-  comes_home g false log seen = qed 𝓛 (‵ (gate_keeps g log) ∷ ‵ (gate_leaves g false 0 seen) ∷ []) ∵ fpick ! (λ b.
-      use2 𝓛 (‵ (gate_keeps g log) ⊛ ‵ (at_home g.copy log)) (all_in g log b) $ split ! $ move ! (1 ∷ []) $
+  home_so g false log seen = qed 𝓛 (‵ (gate_stands g log) ∷ ‵ (gate_leaves g false 0 seen) ∷ []) ∵ fpick ! (λ b.
+      use2 𝓛 (‵ (gate_stands g log) ⊛ ‵ (at_home g.copy log)) (all_in g log b) $ split ! $ move ! (1 ∷ []) $
       use1 𝓛 (‵ (gate_leaves g true 0 log)) (packs_home g log) $ check ! (λ e. absurd (let no : false ≡ true = e in cc)) $ move ! (1 ∷ 0 ∷ []) $ done !)
 
-  open_once : (g : Gate) (log seen : List Entry) (b : Bool) → ⟦ gate_share g log b ⟧ ∗ ⟦ at_home g.copy seen ⟧ ⊢ ⟦ gate_keeps g log ⟧ ∗ ⟦ all_but g.tickets 0 ⟧
+  pub comes_home : (g : Gate) (home : Bool) (log seen : List Entry) → ⟦ gate_keeps g log ⟧ ∗ ⟦ gate_leaves g home 0 seen ⟧ ⊢ Stands g home log seen
+  comes_home g home log seen = qed 𝓛 (‵ (gate_keeps g log) ∷ ‵ (gate_leaves g home 0 seen) ∷ []) ∵ fsplit ! $ move ! (1 ∷ 2 ∷ []) $
+      use2 𝓛 (given (home ≡ true → log ≡ seen) (‵ (gate_stands g log) ⊛ ‵ (gate_leaves g true 0 log))) (home_so g home log seen) $ learn ! (λ e. check ! e $ split ! $ move ! (2 ∷ 0 ∷ []) $ fjoin ! $ done !)
+
+  open_once : (g : Gate) (log seen : List Entry) (b : Bool) → ⟦ gate_share g log b ⟧ ∗ ⟦ at_home g.copy seen ⟧ ⊢ ⟦ gate_stands g log ⟧ ∗ ⟦ all_but g.tickets 0 ⟧
   open_once g log seen true = let l = logs entry_coded in qed 𝓛 (‵ (gate_share g log true) ∷ ‵ (at_home g.copy seen) ∷ []) ∵ fsplit ! $ move ! (0 ∷ 2 ∷ []) $
       use2 𝓛 (given (log ≡ seen) (‵ (copy quarter g.copy log) ⊛ ‵ (at_home g.copy seen))) (latest_agrees l 𝓛 quarter three_quarters g.copy log seen) $ learn ! (λ e. split ! $
       move ! (1 ∷ 0 ∷ []) $ rewrite ! 0 (λ (x : List Entry). ‵ (at_home g.copy x)) (sym e) refl $ move ! (1 ∷ 0 ∷ []) $
       use2 𝓛 (‵ (gate_share g log false)) (latest_glue l 𝓛 full_share quarter three_quarters g.copy log quarters) $ fpack ! Bool (gate_share g log) false $ done !)
-  open_once g log seen false = more_than_all (⟦ gate_keeps g log ⟧ ∗ ⟦ all_but g.tickets 0 ⟧) three_quarters g.copy log seen
+  open_once g log seen false = more_than_all (⟦ gate_stands g log ⟧ ∗ ⟦ all_but g.tickets 0 ⟧) three_quarters g.copy log seen
 
   -- it is no more at home
-  pub goes_off : (g : Gate) (home : Bool) (out : ℕ) (log seen : List Entry) → ⟦ gate_keeps g log ⟧ ∗ ⟦ gate_leaves g home out seen ⟧ ⊢ ⟦ gate_keeps g log ⟧ ∗ ⟦ gate_leaves g false out seen ⟧
-  goes_off g true out log seen = qed 𝓛 (‵ (gate_keeps g log) ∷ ‵ (gate_leaves g true out seen) ∷ []) ∵ move ! (1 ∷ []) $
+  off_so : (g : Gate) (home : Bool) (out : ℕ) (log seen : List Entry) → ⟦ gate_stands g log ⟧ ∗ ⟦ gate_leaves g home out seen ⟧ ⊢ ⟦ gate_stands g log ⟧ ∗ ⟦ gate_leaves g false out seen ⟧
+  off_so g true out log seen = qed 𝓛 (‵ (gate_stands g log) ∷ ‵ (gate_leaves g true out seen) ∷ []) ∵ move ! (1 ∷ []) $
       use1 𝓛 (given (out ≡ 0) (‵ (at_home g.copy seen))) (opens_home g out seen) $ learn ! (λ none. move ! (1 ∷ []) $ fpick ! (λ b. move ! (0 ∷ 1 ∷ []) $
-      use2 𝓛 (‵ (gate_keeps g log) ⊛ ‵ (all_but g.tickets 0)) (open_once g log seen b) $ split ! $ move ! (1 ∷ []) $ rewrite ! 0 (λ (k : ℕ). ‵ (all_but g.tickets k)) (sym none) refl $
+      use2 𝓛 (‵ (gate_stands g log) ⊛ ‵ (all_but g.tickets 0)) (open_once g log seen b) $ split ! $ move ! (1 ∷ []) $ rewrite ! 0 (λ (k : ℕ). ‵ (all_but g.tickets k)) (sym none) refl $
       move ! (1 ∷ 0 ∷ []) $ done !))
-  goes_off g false out log seen = qed 𝓛 (‵ (gate_keeps g log) ∷ ‵ (gate_leaves g false out seen) ∷ []) ∵ done !
+  off_so g false out log seen = qed 𝓛 (‵ (gate_stands g log) ∷ ‵ (gate_leaves g false out seen) ∷ []) ∵ done !
+
+  pub goes_off : (g : Gate) (home : Bool) (out : ℕ) (log seen : List Entry) → ⟦ gate_keeps g log ⟧ ∗ ⟦ gate_leaves g home out seen ⟧ ⊢ ⟦ gate_keeps g log ⟧ ∗ ⟦ gate_leaves g false out seen ⟧
+  goes_off g home out log seen = qed 𝓛 (‵ (gate_keeps g log) ∷ ‵ (gate_leaves g home out seen) ∷ []) ∵ fsplit ! $ move ! (1 ∷ 2 ∷ []) $
+      use2 𝓛 (‵ (gate_stands g log) ⊛ ‵ (gate_leaves g false out seen)) (off_so g home out log seen) $ split ! $ move ! (2 ∷ 0 ∷ []) $ fjoin ! $ done !
 
   -- the first pass has what the porter has at home
   pub first_goes : (g : Gate) (seen : List Entry) → ⟦ gate_leaves g true 0 seen ⟧ ⊢ ⟦ gate_gives g 0 seen ⟧

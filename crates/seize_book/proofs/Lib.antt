@@ -24,7 +24,9 @@ pub mod Adds
 pub mod Looks
 pub mod Begins
 pub mod Books
+pub mod Bounds
 pub mod Sharing
+pub mod Sizing
 pub mod Tuples
 pub mod Private
 pub mod Saying

@@ -12,7 +12,7 @@ use Rattle.seize_machine.specs.Machine.State.{State, linked_values, are_distinct
 use Rattle.seize_book.specs.Ledger.{fact, HeldKey, reached, WithKinds, keys_made}
 use Rattle.seize_book.specs.Entry.{Entry, entry_coded}
 use Rattle.seize_book.specs.Book.{rules, kinds}
-use Rattle.seize_book.specs.Tokens.{Name, rows, start, beside, inside, has_family, knows, rights_own, pass_holds, pass_owns}
+use Rattle.seize_book.specs.Tokens.{Name, rows, start, beside, inside, has_family, knows, rights_own, adder_owns, pass_adds, pass_holds, pass_owns}
 use Rattle.seize_book.proofs.Append.{MayMint, mint, Minted}
 use Rattle.seize_book.proofs.Goes.{kept_now}
 use Rattle.seize_book.proofs.Passes.{IsDistinct, keys, by_pass, MayMake, Permits, Tells, Trades, keys_after, Made}
@@ -69,7 +69,7 @@ module _ {M : Type 1} {𝓤 : Ura M} (𝓛 : Logic 𝓤) (n : Name) where
   pub opens : ⟦ knows n ⟧ ⊢ ⟦ finv J ⟧
   opens = qed 𝓛 (‵ (knows n) ∷ []) ∵ fsplit ! $ keep ! (0 ∷ []) $ use1 𝓛 (‵ (finv J)) (𝓛.invs.named_inv n.number J) $ done !
 
-  module _ (p : ℕ) (seen : List Entry) (held : List (HeldKey Entry)) (ev : List Entry → Entry) (Told : List Entry → Type 0) (X : Pr) (Y : List Entry → Pr) where
+  module _ (p size : ℕ) (seen : List Entry) (held : List (HeldKey Entry)) (ev : List Entry → Entry) (Told : List Entry → Type 0) (X : Pr) (Y : List Entry → Pr) where
     abbrev now_at : List Entry → List Entry
     now_at log = log ++ ev log ∷ []
 
@@ -77,15 +77,15 @@ module _ {M : Type 1} {𝓤 : Ura M} (𝓛 : Logic 𝓤) (n : Name) where
     Noted log = guard 𝓤 (Made 𝓛 n p seen held ev Told log) (⟦ pass_owns n p (now_at log) ⟧ ∗ ⟦ keys_after 𝓛 n held ev log ⟧ ∗ Y log)
 
     -- any event, by the holder of a pass and of the keys of all that it touches
-    pub notes : WithKinds kinds held → MayMake 𝓛 n p seen held ev Told → Permits 𝓛 n p seen held ev Told X → Tells 𝓛 n p seen held Told X → Trades 𝓛 n p seen held ev Told X Y
-        → ⟦ pass_owns n p seen ⟧ ∗ ⟦ keys 𝓛 n held ⟧ ∗ X ⊢ H.⇛ (ex 𝓤 Noted)
+    pub notes : WithKinds kinds held → MayMake 𝓛 n p size seen held ev Told → Permits 𝓛 n p seen held ev Told X → Tells 𝓛 n p seen held Told X → Trades 𝓛 n p seen held ev Told X Y
+        → ⟦ adder_owns n p size seen ⟧ ∗ ⟦ keys 𝓛 n held ⟧ ∗ X ⊢ H.⇛ (ex 𝓤 Noted)
     notes within may permits tells trades = let Z : Pr = ex 𝓤 Noted in
-        qed 𝓛 ((‵ (knows n) ⊛ ‵ (pass_holds n p seen)) ∷ ‵ (keys 𝓛 n held) ∷ raw X ∷ []) ∵ split ! $ use1 𝓛 (given (IsDistinct 𝓛 n) (‵ (knows n))) distinct_links $ learn ! (λ distinct.
+        qed 𝓛 ((‵ (knows n) ⊛ ‵ (pass_adds n p size seen)) ∷ ‵ (keys 𝓛 n held) ∷ raw X ∷ []) ∵ split ! $ use1 𝓛 (given (IsDistinct 𝓛 n) (‵ (knows n))) distinct_links $ learn ! (λ distinct.
         use1 𝓛 (‵ (knows n) ⊛ ‵ (knows n)) knows_twice $ split ! $ use1 𝓛 (‵ (finv J)) opens $ suffices ! _ (𝓛.invs.inv_acc J Z) $ frame ! $ assume ! (‵ J) $
         -- [J; the book; the pass; the keys; X]
         move ! (3 ∷ 4 ∷ []) $ join ! $ move ! (1 ∷ 3 ∷ 0 ∷ []) $
         use3 𝓛 (raw (upd 𝓤 (ex 𝓤 (λ log. guard 𝓤 (Made 𝓛 n p seen held ev Told log) (⟦ J ⟧ ∗ ⟦ pass_holds n p (now_at log) ⟧ ∗ ⟦ keys_after 𝓛 n held ev log ⟧ ∗ Y log)))))
-        (by_pass 𝓛 n p seen held ev Told X Y distinct within may permits tells trades) $
+        (by_pass 𝓛 n p size seen held ev Told X Y distinct within may permits tells trades) $
         settle 𝓛 (⟦ J ⟧ ∗ Z) (some (λ (log : List Entry). given (Made 𝓛 n p seen held ev Told log) (‵ J ⊛ ‵ (pass_holds n p (now_at log)) ⊛ ‵ (keys_after 𝓛 n held ev log) ⊛ raw (Y log)))) $
         suffices ! _ (upd_i 𝓤 (⟦ J ⟧ ∗ Z)) $ pick ! (λ log. learn ! (λ made. split ! $ frame ! $ split3 ! $
         -- [the pass; the keys; Y; the book]

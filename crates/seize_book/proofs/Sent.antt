@@ -2,7 +2,7 @@
 use Rattle.std.proofs.Common.{ℕ, zero, suc, Bool, true, false, ◌==◌, List, [], ◌∷◌, length}
 use base.Growing.{latest, at_least}
 use base.Stored.{Gv}
-use base.Fml.{Lft, Share}
+use base.Fml.{Lft, Share, fsep}
 use base.SetCodes.{coded_share}
 use base.Shift.{Keyless}
 use types.Keyed.{entry_keyless, entries_keyless, token}
@@ -11,6 +11,7 @@ use Rattle.seize_table.specs.Filled.{all_from}
 use Rattle.seize_book.specs.Ledger.{HeldKey, halved, roster, rosters, first_row, rest}
 use Rattle.seize_book.specs.Entry.{Entry, entry_coded}
 use Rattle.seize_book.specs.Book.{after, blocks}
+use Rattle.seize_book.specs.Bounds.{had_size, sets_size, size_lent}
 use Rattle.seize_content.specs.Stages.{lent}
 use Rattle.seize_content.proofs.Sends.{ticket_sent, token_sent, lent_sent, sight_sent}
 use Rattle.seize_machine.specs.Machine.State.{State}
@@ -20,7 +21,7 @@ use Rattle.seize_book.specs.Peeks.{keys_show, show_if, sight_if}
 use Rattle.seize_book.specs.Pairs.{Pair, all_covered, pair_number, pairs_in}
 use Rattle.seize_book.specs.Permits.{all_permitted, knows_permits, permit_if}
 use Rattle.seize_book.specs.Shared.{period, porter_has, porter_shares, row_has, rows_have, side}
-use Rattle.seize_book.specs.Tokens.{Gate, Name, all_but, all_lead, gate_gives, gate_leaves, gate_lends, gate_share, inside, is_placed, keys_own, knows, lent_pass, lies_if, note_if, notes_own, over, porter_owns, rights_own, rows, slot_labels, start, tickets, way_if}
+use Rattle.seize_book.specs.Tokens.{Gate, Name, all_but, all_lead, gate_gives, gate_leaves, gate_lends, gate_share, inside, is_placed, keys_own, knows, lent_pass, lies_if, note_if, notes_own, over, porter_owns, rights_own, rows, sized_pass, slot_labels, start, tickets, way_if}
 use Rattle.seize_book.specs.Begin.{book_owns}
 
 roster_keyless : (δ k : ℕ) (owns : List (List Entry)) → Keyless (roster entry_coded δ k owns)
@@ -101,7 +102,7 @@ lies_if_keyless false n s = tt
 
 inside_keyless : (n : Name) → Keyless (inside n)
 unfolding latest
-inside_keyless n = λ s. (rosters_keyless (rows n) s.0, (tt, (((over_keyless (ended_lives s.1), covered_keyless n.pairs (pairs_in (start n) s.1)), ((λ b. turned_keyless n.gate s.1 b), (leads_keyless n (after (start n) s.1).named, (filled_keyless n.table 0 (slot_labels n (length (after (start n) s.1).slots)), λ _. tt)))), (λ _. tt))))
+inside_keyless n = λ s. (rosters_keyless (rows n) s.0, (tt, (((over_keyless (ended_lives s.1), covered_keyless n.pairs (pairs_in (start n) s.1)), (((λ m. (tt, λ _. tt)), λ b. turned_keyless n.gate s.1 b), (leads_keyless n (after (start n) s.1).named, (filled_keyless n.table 0 (slot_labels n (length (after (start n) s.1).slots)), λ _. tt)))), (λ _. tt))))
 
 pub book_keyless : (n : Name) (seen : List Entry) → Keyless (book_owns n seen)
 unfolding at_least
@@ -144,16 +145,37 @@ module _ (n : Name) (seen : List Entry) where
   period_keyless : (μ : Lft) (δ : ℕ) → Keyless (period n seen μ δ)
   period_keyless μ δ = λ all. (row_keys_keyless δ 0 all, side_keyless μ all)
 
+pub sized_keyless : (n : Name) (κ : Lft) (p size : ℕ) (seen : List Entry) → Keyless (sized_pass n κ p size seen)
+unfolding at_least
+sized_keyless n κ p size seen = (tt, lent_keyless n κ p seen)
+
 -- and so may what a porter has, and what is shared of it
-pub porter_sent : (n : Name) (home : Bool) (seen : List Entry) → Keyless (porter_has n home seen)
+porter_sent : (n : Name) (home : Bool) (seen : List Entry) → Keyless (porter_has n home seen)
 unfolding at_least
 porter_sent n true seen = porter_keyless n true 0 seen
 porter_sent n false seen = λ t. (period_keyless n seen _ t.1.1, (entry_keyless (halved coded_share) _ 0 _, (tt, (knows_keyless n, tt))))
 
-pub porter_shown : (n : Name) (home : Bool) (seen : List Entry) (κ : Lft) → Keyless (porter_shares n home seen κ)
+porter_shown : (n : Name) (home : Bool) (seen : List Entry) (κ : Lft) → Keyless (porter_shares n home seen κ)
 unfolding at_least
 porter_shown n true seen κ = tt
 porter_shown n false seen κ = λ t. ((λ νs. chain-Keyless νs κ _), (period_keyless n seen _ t.1.1, (knows_keyless n, tt)))
+
+pub porter_all_sent : (n : Name) (size : ℕ) (home : Bool) (seen : List Entry) → Keyless (fsep (had_size n.gate.sizes size) (porter_has n home seen))
+unfolding at_least
+porter_all_sent n size home seen = (tt, porter_sent n home seen)
+
+pub porter_all_shown : (n : Name) (size : ℕ) (home : Bool) (seen : List Entry) (κ : Lft) → Keyless (fsep (had_size n.gate.sizes size) (porter_shares n home seen κ))
+unfolding at_least
+porter_all_shown n size home seen κ = (tt, porter_shown n home seen κ)
+
+-- and the right to set the size
+pub sizes_sent : (γ m : ℕ) → Keyless (sets_size γ m)
+unfolding latest
+sizes_sent γ m = tt
+
+pub sizes_shown : (γ m : ℕ) (κ : Lft) → Keyless (size_lent γ m κ)
+unfolding latest
+sizes_shown γ m κ = λ q. tt
 
 note_keyless : (b : Bool) (v : ℕ) (g : Gv) → Keyless (note_if b v g)
 note_keyless true v g = token_sent (cell_of v) g

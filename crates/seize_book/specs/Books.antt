@@ -63,7 +63,7 @@ abbrev pub IsUnused : Keys → Seen → Type 0
 IsUnused keys book = (keys.name ≡ book.name) × (own_of keys.held ≡ [])
 
 -- It begins with so many links, which are empty, and has seen nothing more. These are its keys: those of the numbers, of the total, of the
--- first slot and its head, and of all links.
+-- first slot and its head, and of all links; and the right to set its size.
 pub record HasKeys (book : Seen) (keys : BookKeys) (many : ℕ) (store table : List ℕ) : Type 0 where
   pub began : BeganWith book.name many store table × (book.seen ≡ [])
   pub numbers : IsUnused keys.numbers.keys book
@@ -71,6 +71,7 @@ pub record HasKeys (book : Seen) (keys : BookKeys) (many : ℕ) (store table : L
   pub slot : IsUnused keys.next.slot.keys book × (key_of keys.next.slot.keys.held ≡ 0)
   pub head : IsUnused keys.next.head.keys book × (key_of keys.next.head.keys.held ≡ 0)
   pub links : (keys.links.keys.name ≡ book.name) × (keys.links.keys.held ≡ first_links 0 many)
+  pub sizes : keys.sizes.name ≡ book.name
 
 -- it was never named, all values that lay in its block before were reclaimed, and words hold the block by this number
 abbrev pub IsNextIn : ValueKey → ℕ → Type 0

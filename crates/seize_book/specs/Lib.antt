@@ -28,6 +28,7 @@ pub mod Deposits
 pub mod Bare
 pub mod Batches
 pub mod Books
+pub mod Bounds
 pub mod Porters
 pub mod Blocks
 pub mod Values

@@ -7,12 +7,13 @@
 --     GrewByOthers porter pass  the pass has seen a list that goes on from what the porter has seen, and nothing was made with the first
 --                               pass meanwhile
 --     Resizes porter porter' size   it is the same, but that the batch size is this
+--     most_raised sizes size         the greatest size, or this one, if it is greater
 --     LeavesHome porter porter'     it is the same, but not at home
 --     WasWhole home seen seen'  it is seen still, if the porter was at home: then that was the whole list, and nobody could add
 --     ComesHome porter porter'  the porter is at home: it owns the copy of the whole list (`gate_leaves` in `Tokens`), and nothing was made
 --                               with the first pass meanwhile
 --     Shuts porter pass         the first pass in the porter's place, which is alone
---     IsFirst book pass         the same of a book that has just begun
+--     IsFirst book pass         the same of a book that has just begun;  HasFirstSize book sizes size    and its greatest size is this one
 --     OpensAgain pass porter    the porter, which is at home, has seen what the pass had
 --     MayStay may porter        the work may be done with each first pass that the porter may give
 --     HadStay gave porter porter'   the work was done with the first pass, `lent`, which was alone: `back` is the same pass when the work
@@ -21,7 +22,7 @@
 --     IsFirstPorter book porter size     the porter of a book that has just begun, which is at home, with this batch size
 --     Opens book porter keys links size store table     a new book with so many links, which are empty, and with its keys; and the
 --                               porter of its passes, which is at home, with this batch size
-use Rattle.std.specs.Prelude.{◌≡◌, ℕ, Bool, true, false, List, []}
+use Rattle.std.specs.Prelude.{◌≡◌, ℕ, max, Bool, true, false, List, []}
 use mathlib.Core.List.{IsPrefix}
 use Rattle.seize_machine.specs.Machine.State.{are_distinct, linked_values}
 use Rattle.seize_book.specs.Book.{IsLegalList, after, mine}
@@ -35,6 +36,7 @@ use Rattle.seize_book.specs.declared.book.book_keys.BookKeys.{BookKeys}
 use Rattle.seize_book.specs.declared.book.pass.Pass.{Pass}
 use Rattle.seize_book.specs.declared.book.porter.Porter.{Porter}
 use Rattle.seize_book.specs.declared.book.seen.Seen.{Seen}
+use Rattle.seize_book.specs.declared.book.sizes.Sizes.{Sizes}
 
 abbrev pub IsPorterPass : Porter → Pass → Type 0
 IsPorterPass porter pass = (pass.name ≡ porter.name) × (pass.size ≡ porter.size)
@@ -66,6 +68,9 @@ abbrev pub Resizes : Porter → Porter → ℕ → Type 0
 Resizes porter porter' size =
     (porter'.name ≡ porter.name) × (porter'.size ≡ size) × (porter'.seen ≡ porter.seen) × (porter'.home ≡ porter.home)
 
+abbrev pub most_raised : Sizes → ℕ → Sizes
+most_raised sizes size = record sizes { most = max sizes.most size }
+
 abbrev pub WasWhole : Bool → List Entry → List Entry → Type 0
 WasWhole home seen seen' = home ≡ true → seen' ≡ seen
 
@@ -87,6 +92,9 @@ pub record Shuts (porter : Porter) (pass : Pass) : Type 0 where
 abbrev pub IsFirst : Seen → Pass → Type 0
 IsFirst book pass = IsSole pass.id × (pass.name ≡ book.name) × (pass.seen ≡ [])
 
+abbrev pub HasFirstSize : Seen → Sizes → ℕ → Type 0
+HasFirstSize book sizes size = (sizes.name ≡ book.name) × (sizes.most ≡ size)
+
 abbrev pub OpensAgain : Pass → Porter → Type 0
 OpensAgain pass porter = IsPorterPass porter pass × (porter.seen ≡ pass.seen) × (porter.home ≡ true)
 
@@ -107,4 +115,5 @@ abbrev pub IsFirstPorter : Seen → Porter → ℕ → Type 0
 IsFirstPorter book porter size = (porter.name ≡ book.name) × (porter.size ≡ size) × (porter.seen ≡ []) × (porter.home ≡ true)
 
 abbrev pub Opens : Seen → Porter → BookKeys → ℕ → ℕ → List ℕ → List ℕ → Type 0
-Opens book porter keys links size store table = IsFirstPorter book porter size × HasKeys book keys links store table
+Opens book porter keys links size store table =
+    IsFirstPorter book porter size × HasKeys book keys links store table × (keys.sizes.most ≡ size)

@@ -7,7 +7,8 @@
 --     inside        what stands in its invariant;  knows   that there is this invariant, for good
 --     pass_owns     a pass within a walk, with its ticket in hand: its key, a beginning of the list that it has seen, and where it alone
 --                   may append the list itself
---     lent_pass n κ p seen     a pass: the same, with its ticket lent to it for κ
+--     lent_pass n κ p seen     a pass: the same, with its ticket lent to it for κ;  sized_pass    and its size is one that the book had
+--     pass_adds, adder_owns    what it needs to add an event: its ticket in hand, and that its size is such a one
 --     porter_owns   a porter: the key of the first pass, a beginning of the list that it has seen, and all tickets but those of so many
 --                   passes; or, where it is at home, the copy of the whole list, which is what it has seen
 --     IsSole p      pass p alone may append, for as long as it lasts: it is the first one, which nobody has while the gate is open
@@ -47,6 +48,7 @@ use Rattle.seize_book.specs.Ledger.{HeldKey, fact, logs, right, rights, reached,
 use Rattle.seize_book.specs.Entry.{Entry, entry_coded}
 use Rattle.seize_book.specs.Book.{IsLegalList, Does, after, mine, blocks, passes, slots, rules}
 use Rattle.seize_book.specs.Blocks.{block_number, plans}
+use Rattle.seize_book.specs.Bounds.{bounded, had_size}
 use Rattle.seize_book.specs.Chains.{HasChains, field_value}
 use Rattle.seize_book.specs.Homes.{IsSound, home_of}
 use Rattle.seize_book.specs.Laws.{ended_lives}
@@ -55,10 +57,12 @@ use Rattle.seize_book.specs.Pairs.{all_covered, pairs_in}
 use Rattle.seize_book.specs.Permits.{permit_if}
 
 -- Who may append: at the open gate each pass that the porter lent, at the shut gate the first pass alone, and at home none. The copy of
--- the list by which the first pass is alone has one name, and the tickets that the others are given have another.
+-- the list by which the first pass is alone has one name, and the tickets that the others are given have another. What is added is within
+-- the greatest size that there was, which has a third.
 pub record Gate : Type 0 where
   pub copy : ℕ
   pub tickets : ℕ
+  pub sizes : ℕ
 
 abbrev pub IsSole : ℕ → Type 0
 IsSole p = p ≡ 0
@@ -101,25 +105,27 @@ abbrev pub name_coded : Coded Name
 name_coded =
     code_by (List ℕ × (List (Option ℕ) × (List ℕ × List ℕ)))
     (coded× (coded_list coded_ℕ) (coded× (coded_list (coded_option coded_ℕ)) (coded× (coded_list coded_ℕ) (coded_list coded_ℕ))))
-    (λ n.
-    (n.number ∷ n.log ∷ n.family ∷ n.slots ∷ n.gate.copy ∷ n.gate.tickets ∷ n.permits ∷ n.pairs ∷ rows n, (n.links, (n.store, n.table))))
+    (λ n. (
+      n.number ∷ n.log ∷ n.family ∷ n.slots ∷ n.gate.copy ∷ n.gate.tickets ∷ n.permits ∷ n.pairs ∷ n.gate.sizes ∷ rows n,
+      (n.links, (n.store, n.table)),
+    ))
     (λ t. record {
       number = nth t.0 0;
       log = nth t.0 1;
       family = nth t.0 2;
       slots = nth t.0 3;
-      gate = record { copy = nth t.0 4; tickets = nth t.0 5 };
+      gate = record { copy = nth t.0 4; tickets = nth t.0 5; sizes = nth t.0 8 };
       permits = nth t.0 6;
       pairs = nth t.0 7;
-      pass_keys = nth t.0 8;
-      number_keys = nth t.0 9;
-      slot_keys = nth t.0 10;
-      head_keys = nth t.0 11;
-      link_keys = nth t.0 12;
-      count_keys = nth t.0 13;
-      block_keys = nth t.0 14;
-      field_keys = nth t.0 15;
-      total_keys = nth t.0 16;
+      pass_keys = nth t.0 9;
+      number_keys = nth t.0 10;
+      slot_keys = nth t.0 11;
+      head_keys = nth t.0 12;
+      link_keys = nth t.0 13;
+      count_keys = nth t.0 14;
+      block_keys = nth t.0 15;
+      field_keys = nth t.0 16;
+      total_keys = nth t.0 17;
       links = t.1.0;
       store = t.1.1.0;
       table = t.1.1.1;
@@ -166,8 +172,11 @@ abbrev pub gate_share : Gate → List Entry → Bool → Fml
 gate_share g log true = fsep (latest (logs entry_coded) quarter g.copy log) (all_but g.tickets 0)
 gate_share g log false = latest (logs entry_coded) full_share g.copy log
 
+abbrev pub gate_stands : Gate → List Entry → Fml
+gate_stands g log = fex Bool (gate_share g log)
+
 abbrev pub gate_keeps : Gate → List Entry → Fml
-gate_keeps g log = fex Bool (gate_share g log)
+gate_keeps g log = fsep (bounded g.sizes log) (gate_stands g log)
 
 abbrev pub gate_gives : Gate → ℕ → List Entry → Fml
 gate_gives g zero seen = latest (logs entry_coded) three_quarters g.copy seen
@@ -249,6 +258,17 @@ lent_at n κ p seen own = stands n p seen (gate_lends n.gate κ p seen) own
 
 abbrev pub lent_pass : Name → Lft → ℕ → List Entry → Fml
 lent_pass n κ p seen = fsep (knows n) (fex (List Entry) (lent_at n κ p seen))
+
+-- and its size is one that the book had
+abbrev pub sized_pass : Name → Lft → ℕ → ℕ → List Entry → Fml
+sized_pass n κ p size seen = fsep (had_size n.gate.sizes size) (lent_pass n κ p seen)
+
+-- what it needs to add an event: so it is, with its ticket in hand
+abbrev pub pass_adds : Name → ℕ → ℕ → List Entry → Fml
+pass_adds n p size seen = fsep (had_size n.gate.sizes size) (pass_holds n p seen)
+
+abbrev pub adder_owns : Name → ℕ → ℕ → List Entry → Fml
+adder_owns n p size seen = fsep (knows n) (pass_adds n p size seen)
 
 -- it keeps the key of the first pass, which nobody has meanwhile
 abbrev pub porter_at : Name → Bool → ℕ → List Entry → List Entry → Fml

@@ -39,7 +39,7 @@ use Rattle.seize_words.proofs.Facts.{all_told_later, knows_noted, may_take_by, m
 use Rattle.seize_calls.specs.Batches.{keys_in}
 use Rattle.seize_calls.specs.Calls.{HasBegun, Rests}
 use Rattle.seize_calls.specs.Settling.{HasBatch}
-use Rattle.seize_calls.specs.Slots.{CallsWith, HasActivation, IsInUse, IsInactive, IsOfList, IsOfWords, IsPassFor, KeepsActivation, Prepares}
+use Rattle.seize_calls.specs.Slots.{CallsWith, HasActivation, IsInUse, IsInactive, IsOfList, IsOfWords, IsPassOf, KeepsActivation, Prepares}
 use Rattle.seize_calls.specs.Together.{BelongTogether, IsHolderFor, what_saw}
 use Rattle.seize_calls.specs.declared.batch.Batch.{Batch}
 use Rattle.seize_calls.specs.declared.holder.Holder.{Holder}
@@ -108,7 +108,7 @@ module _ {T : Type 0} (s : Slot T) (p : Pass) (ready : Ready s.seen p) where
       (s.together.book ∙ ready.named, s.together.numbered, omega (arith, there, more))
 
 -- so the slot's holder may make calls with the pass
-pub holds_ready : {T : Type 0} (words : Words T) (s : Slot T) (pass p : Pass) → IsOfWords words s → IsPassFor words pass → Learns pass s.seen p → IsHolderFor words s.holder p
+pub holds_ready : {T : Type 0} (words : Words T) (s : Slot T) (pass p : Pass) → IsOfWords words s → IsPassOf words pass → Learns pass s.seen p → IsHolderFor words s.holder p
 holds_ready words s pass p of for learns =
     let ready = ready_learned s.seen pass p (of.book ∙ for.0) learns in
     record {

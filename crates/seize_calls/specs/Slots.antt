@@ -70,7 +70,7 @@ use Rattle.seize_words.specs.declared.words.Words.{Words}
 use Rattle.seize_calls.specs.Batches.{keys_in}
 use Rattle.seize_calls.specs.Calls.{BeginsToAttempt, Flushes, HasBegun, Leaves, Resumes, RetiresOne, job_of, life_when}
 use Rattle.seize_calls.specs.Handing.{Had}
-pub use Rattle.seize_calls.specs.Together.{IsPassFor}
+pub use Rattle.seize_calls.specs.Together.{IsPassOf}
 use Rattle.seize_calls.specs.Together.{what_saw}
 use Rattle.seize_calls.specs.declared.batch.Batch.{Batch}
 use Rattle.seize_calls.specs.declared.slot.Loose.{Loose}

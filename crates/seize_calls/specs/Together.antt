@@ -2,7 +2,7 @@
 --     what_saw book            what a pass knows that has seen what the book has
 --     BelongTogether number holder seen     the holder's key is that of the slot of this number, which is there, as was seen; it has the
 --                              keys of its batch; and its spots are of the store where the blocks lie
---     IsPassFor words pass     it is a pass of the words' book, with their batch size
+--     IsPassOf words pass     it is a pass of the words' book, with their batch size
 --     IsKeyFor words key pass     and so is the key, and the pass has seen what it knows
 --     IsHolderFor words holder pass     so it is with the holder's key; its spots are of the words' store, and of the values of its batch
 --                              the list says what is kept
@@ -36,11 +36,11 @@ pub record BelongTogether {T : Type 0} (number : ℕ) (holder : Holder T) (seen 
   pub batch_is : AreOfBook (keys_in holder.batch) (what_saw seen) × (values_of (keys_in holder.batch) ≡ (slot_of holder.key).batch)
   pub spots_in : AreOfStore holder.spots seen.name.store
 
-abbrev pub IsPassFor : {T : Type 0} → Words T → Pass → Type 0
-IsPassFor words pass = (words_book words ≡ pass.name) × (words.size ≡ pass.size)
+abbrev pub IsPassOf : {T : Type 0} → Words T → Pass → Type 0
+IsPassOf words pass = (words_book words ≡ pass.name) × (words.size ≡ pass.size)
 
 pub record IsKeyFor {T : Type 0} (words : Words T) (key : SlotKey) (pass : Pass) : Type 0 where
-  pub of : IsPassFor words pass
+  pub of : IsPassOf words pass
   pub its : IsKeyOfBook key pass
   pub knows : Knows key pass
 

@@ -106,7 +106,7 @@ impl<T: Drop> Slot<T> {
     ghost use Rattle.seize_calls.specs.Slots.{its_spots};
     ghost use Rattle.seize_calls.specs.Laying.{Lays};
     ghost use Rattle.seize_calls.specs.Calls.{HasBegun};
-    ghost use Rattle.seize_calls.specs.Slots.{HasActivation, InActivation, IsLooseOf, IsPassFor, KeepsActivation, MayEnterWith};
+    ghost use Rattle.seize_calls.specs.Slots.{HasActivation, InActivation, IsLooseOf, IsPassOf, KeepsActivation, MayEnterWith};
     ghost use Rattle.seize_calls.specs.Slots.{IsActive, IsFreeSlotOf, IsInactive, IsItsHead, IsOfWords, IsSlotOf};
     ghost use Rattle.seize_calls.specs.Slots.{IsRestIn, IsTakenAs, KeepsUse};
     ghost use Rattle.seize_calls.specs.Slots.{SlotEnters, SlotFlushes, SlotGathers, SlotGives, SlotGoes, SlotLeaves, SlotLooks, SlotRefreshes};
@@ -182,19 +182,18 @@ impl<T: Drop> Slot<T> {
         &mut self,
         words: &Words<T>,
         value: T,
-        pass: &mut Pass,
     ) -> Result<(ValueKey, Bare<Header, Part, T>), (Refusal, T)>
-        requires of { IsSlotOf words.now self.old × IsPassFor words.now pass.old }
-        ensures same { KeepsCalls self.old self.new × (pass.new ≡ pass.old) }
+        requires { IsSlotOf words.now self.old }
+        ensures same { KeepsCalls self.old self.new }
         ensures made { IfOk result (λ made. IsBlockIn words.now.blocks value made.0 made.1) }
         ensures refused { IfErr result (λ refused. (refused.0 ≡ NoMemory) × (refused.1 ≡ value)) }
     {
-        words.blocks.add_from(&mut self.holder.spots, value, pass)
+        words.blocks.add_from(&mut self.holder.spots, value)
     }
 
     /// Looks at the list with no event: the pass knows of the slot then what its own key says. It does nothing else.
     pub fn look(&mut self, _words: &Words<T>, pass: &mut Pass)
-        requires of { IsSlotOf _words.now self.old × IsPassFor _words.now pass.old }
+        requires of { IsSlotOf _words.now self.old × IsPassOf _words.now pass.old }
         ensures of { IsSlotOf _words.now self.new × KeepsActivation self.old self.new }
         ensures looks { SlotLooks self.old pass.old self.new pass.new }
     {
@@ -217,7 +216,7 @@ impl<T: Drop> Slot<T> {
     ///
     /// It does nothing when the program runs: its contract is the law.
     pub fn current(&mut self, _words: &Words<T>, unit: &Activation, pass: &mut Pass)
-        requires of { IsSlotOf _words.now self.old × IsPassFor _words.now pass.old }
+        requires of { IsSlotOf _words.now self.old × IsPassOf _words.now pass.old }
         requires unit { (unit.now.slot ≡ its_number self.old) × HasBegun unit.now pass.old }
         ensures of { IsSlotOf _words.now self.new × KeepsActivation self.old self.new }
         ensures within { IsActive self.old × InActivation self.new unit.now }
@@ -246,7 +245,7 @@ impl<T: Drop> Slot<T> {
         rest: &mut Batch,
         pass: &mut Pass,
     )
-        requires of { IsSlotOf words.now self.old × IsPassFor words.now pass.old × IsInactive self.old }
+        requires of { IsSlotOf words.now self.old × IsPassOf words.now pass.old × IsInactive self.old }
         requires numbers { AreNumbersOf numbers.old pass.old × IsRestIn (words_book words.now) numbers.old rest.old }
         requires may { MayGive numbers.old (its_key self.old) }
         ensures of { IsFreeSlotOf words.now self.new }
@@ -272,7 +271,7 @@ impl<T: Drop> Slot<T> {
         rest: &mut Batch,
         pass: &mut Pass,
     ) -> bool
-        requires of { IsFreeSlotOf words.now self.old × IsPassFor words.now pass.old }
+        requires of { IsFreeSlotOf words.now self.old × IsPassOf words.now pass.old }
         requires numbers { AreNumbersOf numbers.old pass.old × IsRestIn (words_book words.now) numbers.old rest.old }
         requires may { MayTakeNumber numbers.old (its_key self.old) }
         ensures of { IsTakenAs result words.now self.new × IsInactive self.new }
@@ -300,7 +299,7 @@ impl<T: Drop> Slot<T> {
         rest: &mut Batch,
         pass: &mut Pass,
     )
-        requires of { IsSlotOf words.now self.old × IsPassFor words.now pass.old × IsInactive self.old }
+        requires of { IsSlotOf words.now self.old × IsPassOf words.now pass.old × IsInactive self.old }
         requires numbers { AreNumbersOf numbers.old pass.old × IsRestIn (words_book words.now) numbers.old rest.old }
         requires may { MayGather numbers.old (its_key self.old) }
         ensures of { IsTakenAs true words.now self.new × IsInactive self.new }
@@ -327,7 +326,7 @@ impl<T: Drop> Slot<T> {
         pass: &mut Pass,
         manner: &M,
     )
-        requires of { IsTakenAs true words.now self.old × IsPassFor words.now pass.old × M.may manner.now pass.old.id }
+        requires of { IsTakenAs true words.now self.old × IsPassOf words.now pass.old × M.may manner.now pass.old.id }
         requires serves { R.serves reclaimer.old (words_book words.now) }
         ensures of { IsSlotOf words.now self.new × (active_of (its_key self.new) ≡ active_of (its_key self.old)) }
         ensures serves { R.serves reclaimer.new (words_book words.now) }
@@ -344,7 +343,7 @@ impl<T: Drop> Slot<T> {
     ///
     /// It takes no memory: the look-up of the head, as `Slots::head`.
     pub fn head<'w>(&self, words: &'w Words<T>, pass: &mut Pass) -> &'w Head
-        requires of { IsOfWords words.now self.now × IsPassFor words.now pass.old }
+        requires of { IsOfWords words.now self.now × IsPassOf words.now pass.old }
         ensures head { IsItsHead self.now result.now }
         ensures pass { Prepares self.now pass.old pass.new }
     {
@@ -363,7 +362,7 @@ impl<T: Drop> Slot<T> {
         activation: &mut Activation,
         pass: &mut Pass,
     )
-        requires of { IsSlotOf _words.now self.old × IsPassFor _words.now pass.old }
+        requires of { IsSlotOf _words.now self.old × IsPassOf _words.now pass.old }
         requires head { IsItsHead self.old head.now }
         requires outside { MayEnterWith self.old activation.old }
         ensures of { IsSlotOf _words.now self.new }
@@ -390,7 +389,7 @@ impl<T: Drop> Slot<T> {
         pass: &mut Pass,
         manner: &M,
     ) -> bool
-        requires of { IsSlotOf words.now self.old × IsPassFor words.now pass.old × M.may manner.now pass.old.id }
+        requires of { IsSlotOf words.now self.old × IsPassOf words.now pass.old × M.may manner.now pass.old.id }
         requires value { IsLooseOf words.now value }
         requires serves { R.serves reclaimer.old (words_book words.now) }
         ensures of { IsSlotOf words.now self.new × KeepsActivation self.old self.new }
@@ -421,7 +420,7 @@ impl<T: Drop> Slot<T> {
         pass: &mut Pass,
         manner: &M,
     ) -> bool
-        requires of { IsSlotOf words.now self.old × IsPassFor words.now pass.old × M.may manner.now pass.old.id }
+        requires of { IsSlotOf words.now self.old × IsPassOf words.now pass.old × M.may manner.now pass.old.id }
         requires inside { IsActive self.old }
         requires serves { R.serves reclaimer.old (words_book words.now) }
         ensures of { IsSlotOf words.now self.new × KeepsActivation self.old self.new }
@@ -449,7 +448,7 @@ impl<T: Drop> Slot<T> {
         pass: &mut Pass,
         manner: &M,
     )
-        requires of { IsSlotOf words.now self.old × IsPassFor words.now pass.old × M.may manner.now pass.old.id }
+        requires of { IsSlotOf words.now self.old × IsPassOf words.now pass.old × M.may manner.now pass.old.id }
         requires head { IsItsHead self.old head.now }
         requires inside { HasActivation self.old activation.old }
         requires serves { R.serves reclaimer.old (words_book words.now) }
@@ -483,7 +482,7 @@ impl<T: Drop> Slot<T> {
         pass: &mut Pass,
         manner: &M,
     )
-        requires of { IsSlotOf words.now self.old × IsPassFor words.now pass.old × M.may manner.now pass.old.id }
+        requires of { IsSlotOf words.now self.old × IsPassOf words.now pass.old × M.may manner.now pass.old.id }
         requires head { IsItsHead self.old head.now }
         requires inside { HasActivation self.old activation.old }
         requires serves { R.serves reclaimer.old (words_book words.now) }
@@ -516,7 +515,7 @@ impl<T: Drop> Slot<T> {
         pass: &mut Pass,
         manner: &M,
     )
-        requires of { IsSlotOf words.now self.old × IsPassFor words.now pass.old × M.may manner.now pass.old.id }
+        requires of { IsSlotOf words.now self.old × IsPassOf words.now pass.old × M.may manner.now pass.old.id }
         requires head { IsItsHead self.old way.head.now }
         requires inside { HasActivation self.old activation.old }
         requires serves { R.serves reclaimer.old (words_book words.now) }

@@ -18,7 +18,7 @@ use Rattle.seize_words.specs.Totals.{made_of}
 use Rattle.seize_words.specs.declared.activation.Activation.{Activation}
 use Rattle.seize_words.specs.declared.words.Words.{Words}
 use Rattle.seize_calls.specs.Calls.{HasBegun}
-use Rattle.seize_calls.specs.Slots.{HasActivation, IsPassFor, IsSlotOf, MayEnterWith, its_number}
+use Rattle.seize_calls.specs.Slots.{HasActivation, IsPassOf, IsSlotOf, MayEnterWith, its_number}
 use Rattle.seize_calls_rows.specs.declared.hall.Source.{Source}
 use Rattle.seize_calls_rows.specs.declared.visitor.Visitor.{Visitor}
 
@@ -44,7 +44,7 @@ HasOneMore words source source' =
     (made_by source' ≡ suc (made_by source)) × (made_by source' < all_numbers → CanMake words source')
 
 abbrev pub MayStepWith : Shared → Activation → Pass → Type 0
-MayStepWith words a pass = IsPassFor words pass × HasBegun a pass
+MayStepWith words a pass = IsPassOf words pass × HasBegun a pass
 
 abbrev pub IsVisitorOf : Shared → Visitor → Type 0
 IsVisitorOf words v = IsSlotOf words v.slot × MayEnterWith v.slot v.activation

@@ -1,6 +1,6 @@
 //! Calls of a slot that look its head up first, for tests that keep no reference to it.
 ghost use Rattle.seize_words.specs.Joined.{words_book};
-ghost use Rattle.seize_calls.specs.Slots.{HasActivation, IsPassFor, IsSlotOf, MayEnterWith, SlotEnters, SlotLeaves, SlotRefreshes};
+ghost use Rattle.seize_calls.specs.Slots.{HasActivation, IsPassOf, IsSlotOf, MayEnterWith, SlotEnters, SlotLeaves, SlotRefreshes};
 
 use seize_calls::draining::Drainer;
 use seize_calls::handing::Reclaim;
@@ -11,7 +11,7 @@ use seize_words::words::Words;
 
 /// The slot enters, which begins the activation.
 pub fn enter(slot: &mut Slot<u64>, words: &Words<u64>, activation: &mut Activation, pass: &mut Pass)
-    requires of { IsSlotOf words.now slot.old × IsPassFor words.now pass.old }
+    requires of { IsSlotOf words.now slot.old × IsPassOf words.now pass.old }
     requires outside { MayEnterWith slot.old activation.old }
     ensures of { IsSlotOf words.now slot.new }
     ensures activation { HasActivation slot.new activation.new }
@@ -30,7 +30,7 @@ pub fn leave<R: Reclaim<u64>, M: Drainer<u64, R>>(
     pass: &mut Pass,
     manner: &M,
 )
-    requires of { IsSlotOf words.now slot.old × IsPassFor words.now pass.old × M.may manner.now pass.old.id }
+    requires of { IsSlotOf words.now slot.old × IsPassOf words.now pass.old × M.may manner.now pass.old.id }
     requires inside { HasActivation slot.old activation.old }
     requires serves { R.serves reclaimer.old (words_book words.now) }
     ensures of { IsSlotOf words.now slot.new × MayEnterWith slot.new activation.new }
@@ -50,7 +50,7 @@ pub fn refresh<R: Reclaim<u64>, M: Drainer<u64, R>>(
     pass: &mut Pass,
     manner: &M,
 )
-    requires of { IsSlotOf words.now slot.old × IsPassFor words.now pass.old × M.may manner.now pass.old.id }
+    requires of { IsSlotOf words.now slot.old × IsPassOf words.now pass.old × M.may manner.now pass.old.id }
     requires inside { HasActivation slot.old activation.old }
     requires serves { R.serves reclaimer.old (words_book words.now) }
     ensures of { IsSlotOf words.now slot.new }

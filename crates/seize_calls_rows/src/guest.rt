@@ -6,7 +6,7 @@ ghost use Rattle.seize_words.specs.Joined.{words_book};
 ghost use Rattle.seize_words.specs.Named.{numbers_book};
 ghost use Rattle.seize_words.specs.Reserved.{HasNextSlot};
 ghost use Rattle.seize_words.specs.Totals.{made_of};
-ghost use Rattle.seize_calls.specs.Slots.{IsLooseOf, IsPassFor};
+ghost use Rattle.seize_calls.specs.Slots.{IsLooseOf, IsPassOf};
 ghost use Rattle.seize_calls_rows.specs.Guests.{IsAway, IsHere};
 
 use crate::by_look_up;
@@ -38,9 +38,9 @@ impl Guest {
         numbers: NumbersKey,
         pass: &mut Pass,
     ) -> Option<Guest>
-        requires pass { IsPassFor words.now pass.old }
+        requires pass { IsPassOf words.now pass.old }
         requires next { (numbers_book numbers ≡ words_book words.now) × HasNextSlot numbers next × (made_of numbers ≡ 0) }
-        ensures here { IfSome result (λ guest. IsHere words.now guest × IsPassFor words.now pass.new) }
+        ensures here { IfSome result (λ guest. IsHere words.now guest × IsPassOf words.now pass.new) }
     {
         let mut numbers = numbers;
         let Ok((slot, _)) = Slot::make(words, alloc, next, &mut numbers, pass) else {
@@ -63,11 +63,11 @@ impl Guest {
         pass: &mut Pass,
         manner: &M,
     ) -> bool
-        requires here { IsHere words.now self.old × IsPassFor words.now pass.old × M.may manner.now pass.old.id }
+        requires here { IsHere words.now self.old × IsPassOf words.now pass.old × M.may manner.now pass.old.id }
         requires serves { R.serves reclaimer.old (words_book words.now) }
         ensures away { result ≡ true → IsAway words.now self.new }
         ensures here { result ≡ false → IsHere words.now self.new }
-        ensures pass { IsPassFor words.now pass.new × (pass.new.id ≡ pass.old.id) }
+        ensures pass { IsPassOf words.now pass.new × (pass.new.id ≡ pass.old.id) }
         ensures serves { R.serves reclaimer.new (words_book words.now) }
     {
         let over = self.slot.leaves_nothing(&self.rest);
@@ -90,10 +90,10 @@ impl Guest {
         pass: &mut Pass,
         manner: &M,
     )
-        requires away { IsAway words.now self.old × IsPassFor words.now pass.old × M.may manner.now pass.old.id }
+        requires away { IsAway words.now self.old × IsPassOf words.now pass.old × M.may manner.now pass.old.id }
         requires serves { R.serves reclaimer.old (words_book words.now) }
         ensures here { IsHere words.now self.new }
-        ensures pass { IsPassFor words.now pass.new × (pass.new.id ≡ pass.old.id) }
+        ensures pass { IsPassOf words.now pass.new × (pass.new.id ≡ pass.old.id) }
         ensures serves { R.serves reclaimer.new (words_book words.now) }
     {
         if self
@@ -113,10 +113,10 @@ impl Guest {
         pass: &mut Pass,
         manner: &M,
     )
-        requires here { IsHere words.now self.old × IsPassFor words.now pass.old × M.may manner.now pass.old.id }
+        requires here { IsHere words.now self.old × IsPassOf words.now pass.old × M.may manner.now pass.old.id }
         requires value { IsLooseOf words.now value }
         requires serves { R.serves reclaimer.old (words_book words.now) }
-        ensures here { IsHere words.now self.new × IsPassFor words.now pass.new }
+        ensures here { IsHere words.now self.new × IsPassOf words.now pass.new }
         ensures serves { R.serves reclaimer.new (words_book words.now) }
     {
         self.slot.retire(words, value, 1, reclaimer, pass, manner);
@@ -130,9 +130,9 @@ impl Guest {
         pass: &mut Pass,
         rt: &impl Wait,
     )
-        requires here { IsHere words.now self.old × IsPassFor words.now pass.old }
+        requires here { IsHere words.now self.old × IsPassOf words.now pass.old }
         requires serves { R.serves reclaimer.old (words_book words.now) }
-        ensures here { IsHere words.now self.new × IsPassFor words.now pass.new }
+        ensures here { IsHere words.now self.new × IsPassOf words.now pass.new }
         ensures serves { R.serves reclaimer.new (words_book words.now) }
     {
         let mut activation = self.slot.activation();
@@ -154,10 +154,10 @@ impl Guest {
         reclaimer: &mut R,
         pass: &mut Pass,
     )
-        requires here { IsHere words.now self.old × IsPassFor words.now pass.old }
+        requires here { IsHere words.now self.old × IsPassOf words.now pass.old }
         requires alone { IsSole pass.old.id }
         requires serves { R.serves reclaimer.old (words_book words.now) }
-        ensures here { IsHere words.now self.new × IsPassFor words.now pass.new }
+        ensures here { IsHere words.now self.new × IsPassOf words.now pass.new }
         ensures alone { IsSole pass.new.id }
         ensures serves { R.serves reclaimer.new (words_book words.now) }
     {

@@ -52,7 +52,7 @@ pub struct Source {
 pub fn open(alloc: Global, size: usize) -> Result<(Hall, Source), Refusal>
     ensures { IfOk result (λ opened. CanMake opened.0.words opened.1 × (made_by opened.1 ≡ 0)) }
 {
-    let (words, permits, pairs, mut porter, numbers, next) = Words::new(alloc, 0, ROW, size)?;
+    let (words, permits, pairs, mut porter, numbers, next) = Words::new(alloc, 0, ROW, size, 1)?;
     porter.leave_home();
     let source = Source {
         numbers,

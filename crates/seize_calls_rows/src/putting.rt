@@ -32,7 +32,7 @@ impl Fresh {
     pub fn new(hall: &Hall, value: u64) -> Result<Fresh, Refusal>
         ensures { IfOk result (λ fresh. IsReady (words_book hall.now.words) fresh) }
     {
-        let made = hall.words.blocks.add(value, &mut hall.porter.pass());
+        let made = hall.words.blocks.add(value);
         let (mut value, block) = made.map_err(|(refusal, _)| refusal)?;
         let number = block.number() as u64;
         let permit = hall.permits.permit(&*block);

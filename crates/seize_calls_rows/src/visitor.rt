@@ -82,7 +82,7 @@ impl Visitor {
         ensures out { IfOk result (λ out. IfSome out (λ loose. IsLooseOf hall.now.words loose)) }
     {
         let words = &hall.words;
-        let made = self.slot.add(words, value, pass);
+        let made = self.slot.add(words, value);
         let (mut key, block) = made.map_err(|(refusal, _)| refusal)?;
         let number = block.number() as u64;
         let lent = hall.permits.permit(&*block);

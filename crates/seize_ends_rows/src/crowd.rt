@@ -2,7 +2,7 @@
 
 use crate::ending::Counting;
 use crate::left::collector;
-use seize::{Guard, OwnedGuard, Refusal, Unlinked};
+use seize::{Guard, OwnedGuard, Refusal};
 use seize_test_kit::values::{Counted, ended};
 use std::alloc::{AllocError, Global};
 use std::cmp::max;
@@ -69,7 +69,7 @@ fn retire_one<'a>(
     let block = collector.owned(Counted { ends });
     let guard = collector.enter_owned(rt, &mut pass)?;
     if let Ok(block) = block {
-        guard.defer_retire(rt, &mut pass, Unlinked::from_owned(block, collector));
+        guard.defer_retire(rt, &mut pass, collector.unlinked(block));
     }
     let number = guard.thread_id();
     guard.leave(rt, &mut pass);

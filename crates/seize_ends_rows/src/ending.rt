@@ -1,9 +1,9 @@
 //! What ends with its collector: each value that links or batches hold, once.
 ghost use Rattle.std.specs.Prelude.{◌≡◌, ◌<◌, IfOk, IfSome};
-ghost use Rattle.seize.specs.Collectors.{IsBlockOf, IsPassOf, its_links};
+ghost use Rattle.seize.specs.Collectors.{IsBlockOf, IsPassOf, its_links, its_words};
 ghost use Rattle.seize.specs.Registrations.{registered_in};
 
-use seize::{Collector, Guard, IdSource, Owned, Pass, Refusal, Registration, Unlinked};
+use seize::{Collector, Guard, IdSource, Owned, Pass, Refusal, Registration};
 use seize_test_kit::values::{Counted, ended};
 use std::alloc::Global;
 use std::sync::Wait;
@@ -19,14 +19,14 @@ pub(crate) type Counting<'a> = Collector<Counted<'a>>;
 
 // A collector with three links and batches of 32 values.
 pub(crate) fn collector<'a>(alloc: Global) -> Result<Counting<'a>, Refusal>
-    ensures { IfOk result (λ made. its_links made ≡ 3) }
+    ensures { IfOk result (λ made. its_links (its_words made) ≡ 3) }
 {
     Collector::new(alloc, &mut IdSource::new(), 1, 3)
 }
 
 // A block with a value that counts its end. Where the block is refused the value ends at once.
 fn block<'a>(collector: &Counting<'a>, ends: &'a AtomicU64) -> Option<Owned<Counted<'a>>>
-    ensures { IfSome result (λ owned. IsBlockOf collector.now owned) }
+    ensures { IfSome result (λ owned. IsBlockOf (its_words collector.now) owned) }
 {
     match collector.owned(Counted { ends }) {
         Ok(owned) => Some(owned),
@@ -67,13 +67,13 @@ pub(crate) fn retire<'c, 'a>(
     ends: &'a AtomicU64,
     pass: &mut Pass,
 )
-    requires its { registered_in registration.now ≡ collector.now }
-    requires pass { IsPassOf collector.now pass.old }
-    ensures { IsPassOf collector.now pass.new }
+    requires its { registered_in registration.now ≡ its_words collector.now }
+    requires pass { IsPassOf (its_words collector.now) pass.old }
+    ensures { IsPassOf (its_words collector.now) pass.new }
 {
     for _ in 0..count {
         if let Some(owned) = block(collector, ends) {
-            registration.retire(rt, pass, Unlinked::from_owned(owned, collector));
+            registration.retire(rt, pass, collector.unlinked(owned));
         }
     }
 }
@@ -84,7 +84,7 @@ pub(crate) fn put_in_all<'a>(
     collector: &Counting<'a>,
     ends: &'a AtomicU64,
 ) -> Result<(), Refusal>
-    requires { its_links collector.now ≡ 3 }
+    requires { its_links (its_words collector.now) ≡ 3 }
 {
     let mut pass = collector.pass();
     let registration = collector.register(rt, &mut pass)?;
@@ -179,15 +179,15 @@ pub(crate) fn put_by_two<'a, R: Threads + Wait + Sync>(
     collector: &Counting<'a>,
     ends: &'a AtomicU64,
 ) -> Result<(), Refusal>
-    requires { its_links collector.now ≡ 3 }
+    requires { its_links (its_words collector.now) ≡ 3 }
 {
     let (one, other) = thread::join(
         rt,
         move || -> Result<(), Refusal>
-            requires { its_links collector.now ≡ 3 }
+            requires { its_links (its_words collector.now) ≡ 3 }
         { put_many(rt, collector, ends) },
         move || -> Result<(), Refusal>
-            requires { its_links collector.now ≡ 3 }
+            requires { its_links (its_words collector.now) ≡ 3 }
         { put_many(rt, collector, ends) },
     );
     one?;
@@ -200,7 +200,7 @@ fn put_many<'a>(
     collector: &Counting<'a>,
     ends: &'a AtomicU64,
 ) -> Result<(), Refusal>
-    requires { its_links collector.now ≡ 3 }
+    requires { its_links (its_words collector.now) ≡ 3 }
 {
     for _ in 0..TIMES {
         put_in_all(rt, collector, ends)?;

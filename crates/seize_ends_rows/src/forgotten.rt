@@ -2,11 +2,11 @@
 //! So it is with the collector's drop. What is gone in another way stays.
 ghost use Rattle.std.specs.Prelude.{◌≡◌};
 ghost use base.Stored.{coded_unit};
-ghost use Rattle.seize.specs.Collectors.{IsPassOf};
+ghost use Rattle.seize.specs.Collectors.{IsPassOf, its_words};
 ghost use Rattle.seize.specs.Registrations.{registered_in};
 
 use crate::ending::{Counting, collector, put_in_all};
-use seize::{Collector, Guard, IdSource, LocalGuard, Pass, Refusal, Registration, Unlinked, Watch};
+use seize::{Collector, Guard, IdSource, LocalGuard, Pass, Refusal, Registration, Watch};
 use seize_test_kit::values::{Counted, Digit, ended};
 use std::alloc::{AllocError, Global};
 use std::ops::Range;
@@ -54,13 +54,13 @@ pub(crate) fn retire<'c, 'a>(
     told: &'a AtomicU64,
     pass: &mut Pass,
 )
-    requires its { registered_in registration.now ≡ collector.now }
-    requires pass { IsPassOf collector.now pass.old }
-    ensures { IsPassOf collector.now pass.new }
+    requires its { registered_in registration.now ≡ its_words collector.now }
+    requires pass { IsPassOf (its_words collector.now) pass.old }
+    ensures { IsPassOf (its_words collector.now) pass.new }
 {
     for digit in digits {
         if let Ok(owned) = collector.owned(Digit { digit, told }) {
-            registration.retire(rt, pass, Unlinked::from_owned(owned, collector));
+            registration.retire(rt, pass, collector.unlinked(owned));
         }
     }
 }
@@ -83,7 +83,8 @@ pub(crate) fn forget_guard<T: Drop>(
     requires { IsPassOf (registered_in registration.now) pass.old }
     ensures { IsPassOf (registered_in registration.now) pass.new }
 {
-    registration.enter(pass)?.forget();
+    let guard = registration.enter(pass)?;
+    guard.forget(pass);
     Ok(())
 }
 
@@ -247,7 +248,8 @@ struct Held<'r, 'c, 'a>(LocalGuard<'r, 'c, Counted<'a>>);
 impl Drop for Held<'_, '_, '_> {
     fn drop(self) {
         let Held(guard) = self;
-        guard.forget();
+        let mut pass = guard.collector().pass();
+        guard.forget(&mut pass);
     }
 }
 

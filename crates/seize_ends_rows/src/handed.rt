@@ -1,7 +1,7 @@
 //! Blocks that came out of a link, and are retired by another thread.
 ghost use Rattle.std.specs.Prelude.{◌≡◌, ◌<◌, IfOk, IfSome};
 ghost use Rattle.seize.specs.Links.{IsUnlinkedOf};
-ghost use Rattle.seize.specs.Collectors.{IsBlockOf, IsPassOf, its_links};
+ghost use Rattle.seize.specs.Collectors.{IsBlockOf, IsPassOf, its_links, its_words};
 ghost use Rattle.seize.specs.Guards.{owned_collector};
 ghost use Rattle.seize.specs.Registrations.{registered_in};
 
@@ -48,7 +48,7 @@ impl<R: Wait> Handed<'_, '_, '_, R> {
 
 // A collector with one link, and batches of one value.
 fn collector<'a>(alloc: Global) -> Result<Collector<Marked<'a>>, Refusal>
-    ensures { IfOk result (λ made. 0 < its_links made) }
+    ensures { IfOk result (λ made. 0 < its_links (its_words made)) }
 {
     let made: Collector<Marked<'a>> = Collector::new(alloc, &mut IdSource::new(), 1, 1)?;
     Ok(made.batch_size(1))
@@ -100,7 +100,7 @@ fn put_two<'a, R: Threads + Wait + Sync + Abort>(
     collector: &Collector<Marked<'a>>,
     marks: &'a [AtomicU64],
 ) -> [Option<(u64, u64)>; 3]
-    requires { 0 < its_links collector.now }
+    requires { 0 < its_links (its_words collector.now) }
 {
     let mut pass = collector.pass();
     let guard = collector.enter_owned(rt, &mut pass).expect(rt, "memory");

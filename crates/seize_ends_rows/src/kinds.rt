@@ -1,13 +1,12 @@
 //! A reclaimer of the caller's own: each value goes to it once, with the kind that its retirement said, by whatever call ends the value.
 ghost use Rattle.std.proofs.Common.{lit<};
 ghost use Rattle.std.specs.Prelude.{◌≡◌, IfOk};
-ghost use Rattle.seize.specs.Collectors.{IsPassOf, its_links};
+ghost use Rattle.seize.specs.Collectors.{IsPassOf, its_links, its_words};
 ghost use Rattle.seize.specs.Guards.{owned_collector};
 ghost use Rattle.seize.specs.Registrations.{registered_in};
 
 use seize::{
     Collector, Further, Guard, IdSource, OwnedGuard, Pass, Puts, Reclaim, Refusal, Registration,
-    Unlinked,
 };
 use seize_test_kit::values::ended;
 use std::alloc::Global;
@@ -53,7 +52,7 @@ type Summing<'a> = Collector<u64, Sums<'a>>;
 
 // A collector with one link, whose batches have this many values.
 fn collector<'a>(alloc: Global, size: usize, sums: &'a Totals) -> Result<Summing<'a>, Refusal>
-    ensures { IfOk result (λ made. its_links made ≡ 1) }
+    ensures { IfOk result (λ made. its_links (its_words made) ≡ 1) }
 {
     let collector = Collector::with_reclaimer(alloc, &mut IdSource::new(), 1, 1, Sums { sums })?;
     Ok(collector.batch_size(size))
@@ -84,7 +83,7 @@ fn retire<'a>(
 {
     let collector = registration.collector();
     let owned = collector.owned(value).map_err(|(refusal, _)| refusal)?;
-    registration.retire_as(rt, pass, Unlinked::from_owned(owned, collector), kind);
+    registration.retire_as(rt, pass, collector.unlinked(owned), kind);
     Ok(())
 }
 
@@ -155,7 +154,7 @@ fn put<'a>(rt: &impl Wait, guard: &OwnedGuard<'_, u64, Sums<'a>>, value: u64, pa
 
 // A guard puts two values into the link, one after the other, and hands the first one as it leaves.
 fn exchange<'a>(rt: &impl Wait, collector: &Summing<'a>) -> Result<(), Refusal>
-    requires { its_links collector.now ≡ 1 }
+    requires { its_links (its_words collector.now) ≡ 1 }
 {
     let mut pass = collector.pass();
     let guard = collector.enter_owned(rt, &mut pass)?;
@@ -179,7 +178,7 @@ fn leaves_and_drops_call_the_reclaimer(rt: HostRuntime) -> Result<(), Fail> {
 
 // A slot's guard puts six values of 1 into the link, of which it retires five, and leaves.
 fn retire_five<'a>(rt: &impl Wait, collector: &Summing<'a>) -> Result<(), Refusal>
-    requires { its_links collector.now ≡ 1 }
+    requires { its_links (its_words collector.now) ≡ 1 }
 {
     let mut pass = collector.pass();
     let guard = collector.enter_owned(rt, &mut pass)?;
@@ -192,7 +191,7 @@ fn retire_five<'a>(rt: &impl Wait, collector: &Summing<'a>) -> Result<(), Refusa
 
 // Three guards of another slot leave one after another.
 fn leave_thrice<'a>(rt: &(impl Wait + Abort), collector: &Summing<'a>, sums: &Totals)
-    requires { its_links collector.now ≡ 1 }
+    requires { its_links (its_words collector.now) ≡ 1 }
 {
     let mut pass = collector.pass();
     let registration = collector.register(rt, &mut pass).expect(rt, "memory");

@@ -16,6 +16,8 @@ mod kinds;
 #[cfg(test)]
 mod left;
 #[cfg(test)]
+mod lost;
+#[cfg(test)]
 mod reclaiming;
 #[cfg(test)]
 mod taken_over;

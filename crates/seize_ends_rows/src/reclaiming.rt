@@ -2,7 +2,7 @@
 //! the collector is shared again.
 
 ghost use Rattle.std.specs.Prelude.{◌≡◌, ◌<◌, IfOk};
-ghost use Rattle.seize.specs.Collectors.{IsPassOf, its_links};
+ghost use Rattle.seize.specs.Collectors.{IsPassOf, its_links, its_words};
 ghost use Rattle.seize.specs.Registrations.{registered_in};
 
 use crate::ending::{Counting, TIMES, collector, put_by_two, put_in_all, retire, retire_by_two};
@@ -22,7 +22,7 @@ fn forget_beside<'a>(
     collector: &Counting<'a>,
     ends: &'a AtomicU64,
 ) -> Result<(), Refusal>
-    requires { its_links collector.now ≡ 3 }
+    requires { its_links (its_words collector.now) ≡ 3 }
 {
     let mut pass = collector.pass();
     let registration = collector.register(rt, &mut pass)?;
@@ -75,7 +75,7 @@ fn what_two_threads_retired_ends(rt: HostRuntime) -> Result<(), Fail> {
 
 // A collector with one link.
 fn numbers<'a>(alloc: Global) -> Result<Collector<Marked<'a>>, Refusal>
-    ensures { IfOk result (λ made. 0 < its_links made) }
+    ensures { IfOk result (λ made. 0 < its_links (its_words made)) }
 {
     Collector::new(alloc, &mut IdSource::new(), 1, 1)
 }
@@ -109,7 +109,7 @@ fn put_many<'a>(
     many: u64,
     marks: &'a [AtomicU64],
 ) -> Result<Option<u64>, Refusal>
-    requires { 0 < its_links collector.now }
+    requires { 0 < its_links (its_words collector.now) }
 {
     let mut pass = collector.pass();
     let registration = collector.register(rt, &mut pass)?;

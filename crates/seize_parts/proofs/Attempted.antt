@@ -17,7 +17,7 @@ use Rattle.seize_words.specs.declared.words.Words.{Words}
 use Rattle.seize_calls.specs.Aparts.{without_puts}
 use Rattle.seize_calls.specs.Handing.{Had}
 use Rattle.seize_calls.specs.declared.further.Further.{Further}
-use Rattle.seize_calls.specs.Slots.{IsOfWords, IsPassFor, Prepares, SlotEnters, SlotFlushes, SlotLeaves, its_number}
+use Rattle.seize_calls.specs.Slots.{IsOfWords, IsPassOf, Prepares, SlotEnters, SlotFlushes, SlotLeaves, its_number}
 use Rattle.seize_calls.specs.declared.slot.Slot.{Slot}
 use Rattle.seize_alone.specs.Calls.{CallsAlone}
 use Rattle.seize_alone.specs.Gone.{PutAs}
@@ -46,7 +46,7 @@ module _ {T : Type 0} (c : Coded T) (words : Words T) (n : ℕ) where
   pub record Calls (slot slot' : Slot T) (pass pass' : Pass) (st : ModelState T ℕ) (names : List (ℕ × T)) (kinds : List (ℕ × ℕ)) : Type 0 where
     pub at : its_number slot ≡ n
     pub sole : IsSole pass.id
-    pub for : IsPassFor words pass
+    pub for : IsPassOf words pass
     pub of : IsOfWords words slot'
     pub distinct : are_distinct (linked_values pass.name.links) ≡ true
     pub size : st.size ≡ pass.size
@@ -95,7 +95,7 @@ module _ {T : Type 0} (c : Coded T) (words : Words T) (n : ℕ) where
 
 -- The pass is there, the slot enters, flushes and leaves, and the pass looks.
 module _ {T Seen : Type 0} (c : Coded T) (puts : ℕ → T → List T) (told : Seen → T → Seen) (words : Words T) (n : ℕ) where
-  module _ (slot0 slot2 slot3 slot4 : Slot T) (p0 p1 p2 p3 p4 p5 : Pass) (a : Activation) (retired : Bool) (had1 had2 : Had) (at : its_number slot0 ≡ n) (for : IsPassFor words p0) (sole : IsSole p0.id)
+  module _ (slot0 slot2 slot3 slot4 : Slot T) (p0 p1 p2 p3 p4 p5 : Pass) (a : Activation) (retired : Bool) (had1 had2 : Had) (at : its_number slot0 ≡ n) (for : IsPassOf words p0) (sole : IsSole p0.id)
       (prepares : Prepares slot0 p0 p1) (enters : SlotEnters slot0 p1 a slot2 p2) (of3 : IsOfWords words slot3) (flushes : SlotFlushes slot2 p2 [] slot3 p3 (without_puts had1) retired)
       (of4 : IsOfWords words slot4) (leaves : SlotLeaves slot3 p3 [] slot4 p4 (without_puts had2)) (still : IsUnmoved p4 p5) where
     same2 : IsSamePass p0 p2

@@ -29,7 +29,7 @@ use Rattle.seize_calls.specs.Aparts.{without_puts}
 use Rattle.seize_calls.specs.Handing.{AreTheirs, Had, Handings, values_put}
 use Rattle.seize_calls.specs.Marks.{actives, readings}
 use Rattle.seize_calls.specs.Settling.{CallState, Drains, Settles, Stays}
-use Rattle.seize_calls.specs.Slots.{IsActive, IsInUse, IsInactive, IsOfWords, IsPassFor, Prepares, SlotEnters, SlotFlushes, SlotLeaves, SlotLooks, its_number}
+use Rattle.seize_calls.specs.Slots.{IsActive, IsInUse, IsInactive, IsOfWords, IsPassOf, Prepares, SlotEnters, SlotFlushes, SlotLeaves, SlotLooks, its_number}
 use Rattle.seize_calls.specs.declared.batch.Batch.{Batch}
 use Rattle.seize_calls.specs.declared.slot.Slot.{Slot}
 use Rattle.seize_calls.specs.Walking.{handed_in}
@@ -190,7 +190,7 @@ module _ {T : Type 0} (slot : Slot T) (pass : Pass) (slot' : Slot T) (pass' : Pa
       ∙ ap values_of l.batch ∙ slot.together.batch_is.1 ∙ bare
 
 -- A slot enters, attempts its batch, leaves, and looks at the list.
-module _ {T : Type 0} (words : Words T) (s0 s2 s3 s4 s5 : Slot T) (p0 p1 p2 p3 p4 p5 : Pass) (sole : IsSole p0.id) (for : IsPassFor words p0) (prep : Prepares s0 p0 p1) (a : Activation) (entered : SlotEnters s0 p1 a s2 p2)
+module _ {T : Type 0} (words : Words T) (s0 s2 s3 s4 s5 : Slot T) (p0 p1 p2 p3 p4 p5 : Pass) (sole : IsSole p0.id) (for : IsPassOf words p0) (prep : Prepares s0 p0 p1) (a : Activation) (entered : SlotEnters s0 p1 a s2 p2)
     (e3 : Had) (of3 : IsOfWords words s3) (retired : Bool) (flushed : SlotFlushes s2 p2 [] s3 p3 e3 retired) (had4 : Had) (of4 : IsOfWords words s4) (left : SlotLeaves s3 p3 [] s4 p4 (without_puts had4))
     (looked : SlotLooks s4 p4 s5 p5) where
   abbrev s : ℕ
@@ -208,7 +208,7 @@ module _ {T : Type 0} (words : Words T) (s0 s2 s3 s4 s5 : Slot T) (p0 p1 p2 p3 p
   sole2 : IsSole p2.id
   sole2 = still_sole p1 p2 led2.same sole1
 
-  for2 : IsPassFor words p2
+  for2 : IsPassOf words p2
   for2 = still_for words p1 p2 (still_for words p0 p1 for prep.same) led2.same
 
   led3 : IsLedBy s p2 p3
@@ -220,7 +220,7 @@ module _ {T : Type 0} (words : Words T) (s0 s2 s3 s4 s5 : Slot T) (p0 p1 p2 p3 p
   sole3 : IsSole p3.id
   sole3 = still_sole p2 p3 led3.same sole2
 
-  for3 : IsPassFor words p3
+  for3 : IsPassOf words p3
   for3 = still_for words p2 p3 for2 led3.same
 
   led4 : IsLedBy s p3 p4
@@ -232,7 +232,7 @@ module _ {T : Type 0} (words : Words T) (s0 s2 s3 s4 s5 : Slot T) (p0 p1 p2 p3 p
   sole4 : IsSole p4.id
   sole4 = still_sole p3 p4 led4.same sole3
 
-  for4 : IsPassFor words p4
+  for4 : IsPassOf words p4
   for4 = still_for words p3 p4 for3 led4.same
 
   pub swept_led : IsLedBy s p0 p5

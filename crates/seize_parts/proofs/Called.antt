@@ -11,7 +11,7 @@ use Rattle.seize_book.specs.declared.book.pass.Pass.{Pass}
 use Rattle.seize_words.specs.Joined.{words_book}
 use Rattle.seize_words.specs.declared.words.Words.{Words}
 use Rattle.seize_calls.specs.Handing.{Had}
-use Rattle.seize_calls.specs.Slots.{CallsWith, IsOfWords, IsPassFor, seen_book, its_number}
+use Rattle.seize_calls.specs.Slots.{CallsWith, IsOfWords, IsPassOf, seen_book, its_number}
 use Rattle.seize_calls.specs.declared.slot.Slot.{Slot}
 use Rattle.seize_alone.specs.Gone.{PutAs}
 use Rattle.seize_parts.specs.Places.{CallsSlot, IsOnly, IsUnmoved}
@@ -30,14 +30,14 @@ pub sole_still : {pass pass' : Pass} → IsUnmoved pass pass' → IsSole pass.id
 sole_still still sole = subst IsSole (sym still.same.1) sole
 
 -- what the pass has seen is a legal list then, since it is what the slot has seen
-pub legal_then : {T : Type 0} (words : Words T) (slot slot' : Slot T) (pass pass' : Pass) (Does : Pass → Type 0) (calls : CallsWith slot pass slot' pass' Does) → IsOfWords words slot' → IsPassFor words pass → IsSamePass calls.ready pass'
+pub legal_then : {T : Type 0} (words : Words T) (slot slot' : Slot T) (pass pass' : Pass) (Does : Pass → Type 0) (calls : CallsWith slot pass slot' pass' Does) → IsOfWords words slot' → IsPassOf words pass → IsSamePass calls.ready pass'
     → IsLegalList (start pass'.name) pass'.seen
 legal_then words slot slot' pass pass' Does calls of for same =
     subst (λ (t : Name × List Entry). IsLegalList (start t.0) t.1) (λ j. ((of.book ∙ for.0 ∙ sym calls.prepares.same.0 ∙ sym same.0) j, calls.seen j)) of.knows.legal
 
 module _ {T Seen : Type 0} (code : T → Gv) (puts : ℕ → T → List T) (told : Seen → T → Seen) (words : Words T) (r : Reservation T) (pass : Pass) (r' : Reservation T) (pass' : Pass) (seen seen' : Seen)
     (Does : Slot T → Pass → Slot T → Pass → Had → Type 0) where
-  pub called : (slot : Slot T) (ready : Pass) (had : Had) (Did : Pass → Type 0) → its_number slot ≡ its_number r.slot → IsUnmoved pass ready → IsSole pass.id → IsPassFor words pass → IsOfWords words r'.slot → Does slot ready r'.slot pass' had
+  pub called : (slot : Slot T) (ready : Pass) (had : Had) (Did : Pass → Type 0) → its_number slot ≡ its_number r.slot → IsUnmoved pass ready → IsSole pass.id → IsPassOf words pass → IsOfWords words r'.slot → Does slot ready r'.slot pass' had
       → (calls : CallsWith slot ready r'.slot pass' Did) → IsSamePass calls.ready pass' → IsPrefix calls.ready.seen pass'.seen → PutAs code puts had → HasTold code told seen seen' had → CallsSlot code puts told r pass r' pass' seen seen' Does
   called slot ready had Did its still sole for of does calls same grows put tells = record {
     same = (same.0 ∙ calls.prepares.same.0 ∙ still.same.0, same.1 ∙ calls.prepares.same.1 ∙ still.same.1, same.2 ∙ calls.prepares.same.2 ∙ still.same.2);
@@ -55,7 +55,7 @@ module _ {T Seen : Type 0} (code : T → Gv) (puts : ℕ → T → List T) (told
 
 -- What lies in a place, by its label: a reservation for one guard.
 
-pub only_there : {T : Type 0} (words : Words T) (s : ℕ) (pass : Pass) (r : Reservation T) → its_label r ≡ place_label (words_book words) s 1 → IsPassFor words pass → IsSole pass.id → IsOnly words r pass × (its_number r.slot ≡ s)
+pub only_there : {T : Type 0} (words : Words T) (s : ℕ) (pass : Pass) (r : Reservation T) → its_label r ≡ place_label (words_book words) s 1 → IsPassOf words pass → IsSole pass.id → IsOnly words r pass × (its_number r.slot ≡ s)
 only_there words s pass r at for sole =
     let n = seen_book r.slot in let m = words_book words in let t = its_number r.slot in ((label_family n m t s r.most 1 at, label_most n m t s r.most 1 at, for, sole), label_number n m t s r.most 1 at)
 

@@ -27,7 +27,7 @@ use Rattle.seize_words.specs.Joined.{words_book}
 use Rattle.seize_words.specs.declared.words.Words.{Words}
 use Rattle.seize_calls.specs.Aparts.{without_puts}
 use Rattle.seize_calls.specs.Handing.{Had}
-use Rattle.seize_calls.specs.Slots.{IsOfWords, IsPassFor, SlotLeaves, its_number}
+use Rattle.seize_calls.specs.Slots.{IsOfWords, IsPassOf, SlotLeaves, its_number}
 use Rattle.seize_calls.specs.declared.further.Further.{Further}
 use Rattle.seize_calls.specs.declared.slot.Slot.{Slot}
 use Rattle.seize_alone.specs.Gone.{PutAs}
@@ -77,7 +77,7 @@ module _ {T : Type 0} (st : ModelState T ℕ) (s : ℕ) (used : is_free (model_s
 
 module _ {T Seen : Type 0} (c : Coded T) (puts : ℕ → T → List T) (told : Seen → T → Seen) where
   -- the last guard leaves
-  pub leave_goes : (words : Words T) (slot slot' : Slot T) (pass ready pass' : Pass) (n : ℕ) → its_number slot ≡ n → IsPassFor words pass → IsSole pass.id → IsUnmoved pass ready → IsOfWords words slot' → (had : Had) → SlotLeaves slot ready [] slot' pass' (without_puts had)
+  pub leave_goes : (words : Words T) (slot slot' : Slot T) (pass ready pass' : Pass) (n : ℕ) → its_number slot ≡ n → IsPassOf words pass → IsSole pass.id → IsUnmoved pass ready → IsOfWords words slot' → (had : Had) → SlotLeaves slot ready [] slot' pass' (without_puts had)
       → PutAs c.code puts had → (seen seen' : Seen) (queue queue' : Further) → HasTold c.code told seen seen' had → WaitsBehind (words_book words) had queue queue'
       → Goes c.code puts told (λ st. Fits pass st × (is_free (model_slot st n).kind ≡ false) × ((model_slot st n).guards ≡ 1)) (λ st. one_guard_less st n) pass pass' seen seen' queue queue'
   leave_goes words slot slot' pass ready pass' n at for sole still of had leaves put seen seen' queue queue' tells waits =

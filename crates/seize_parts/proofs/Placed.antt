@@ -17,7 +17,7 @@ use Rattle.seize_words.specs.Units.{all_units}
 use Rattle.seize_words.specs.declared.activation.Activation.{Activation}
 use Rattle.seize_words.specs.declared.words.Words.{Words}
 use Rattle.seize_calls.specs.Calls.{HasBegun}
-use Rattle.seize_calls.specs.Slots.{InActivation, IsActive, IsPassFor, IsSlotOf, MayEnterWith, Prepares, SlotLooks, its_number}
+use Rattle.seize_calls.specs.Slots.{InActivation, IsActive, IsPassOf, IsSlotOf, MayEnterWith, Prepares, SlotLooks, its_number}
 use Rattle.seize_calls.specs.Together.{what_saw}
 use Rattle.seize_calls.specs.declared.slot.Slot.{Slot}
 use Rattle.seize_calls.proofs.Slots.{begun_later, longer_right}
@@ -90,11 +90,11 @@ may_still slot slot' rest its active may = (active ∙ may.0, (may.1.0 ∙ sym i
 -- Passes.
 
 -- a pass for the words is one for them later
-pub still_for : {T : Type 0} (words : Words T) (pass pass' : Pass) → IsPassFor words pass → IsSamePass pass pass' → IsPassFor words pass'
+pub still_for : {T : Type 0} (words : Words T) (pass pass' : Pass) → IsPassOf words pass → IsSamePass pass pass' → IsPassOf words pass'
 still_for words pass pass' for same = (for.0 ∙ sym same.0, for.1 ∙ sym same.2)
 
 -- and a look with the slot, after the pass has learned what the slot had seen, shows that the slot is active still
-pub still_active : {T : Type 0} (words : Words T) (slot : Slot T) (pass ready : Pass) (slot' : Slot T) (pass' : Pass) → IsSlotOf words slot → IsPassFor words pass → Prepares slot pass ready
+pub still_active : {T : Type 0} (words : Words T) (slot : Slot T) (pass ready : Pass) (slot' : Slot T) (pass' : Pass) → IsSlotOf words slot → IsPassOf words pass → Prepares slot pass ready
     → SlotLooks slot ready slot' pass' → IsActive slot → MakesNone pass pass' × IsActiveIn pass' (its_number slot)
 still_active words slot pass ready slot' pass' of for prepares looks active = (
   none_then (none_prepared slot pass ready prepares) (slot_looks slot ready slot' pass' looks),

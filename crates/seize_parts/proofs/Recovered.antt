@@ -16,7 +16,7 @@ use mathlib.Core.List.{IsPrefix}
 use Rattle.seize_words.specs.Joined.{words_book}
 use Rattle.seize_words.specs.declared.words.Words.{Words}
 use Rattle.seize_calls.proofs.Current.{looked_active, shown}
-use Rattle.seize_calls.specs.Slots.{IsInactive, IsPassFor, IsRestIn, IsSlotOf, SlotLooks, its_number}
+use Rattle.seize_calls.specs.Slots.{IsInactive, IsPassOf, IsRestIn, IsSlotOf, SlotLooks, its_number}
 use Rattle.seize_calls.specs.declared.batch.Batch.{Batch}
 use Rattle.seize_calls.specs.declared.slot.Slot.{Slot}
 use Rattle.seize_parts.specs.Numbers.{AreEachAt, AreSlots, IsKeptAt}
@@ -27,7 +27,7 @@ use Rattle.seize_parts.proofs.Numbered.{flags_length, own_followed, some_same, t
 use Rattle.seize_parts.proofs.Placed.{still_for}
 use Rattle.seize_parts.proofs.Swept.{idle_call, idle_led, kept_off, keeps_on, led_none, led_then, looks, still_sole}
 
-module _ {T : Type 0} (words : Words T) (numbers : Numbers T) (are : AreSlots numbers) (of : numbers.book.name ≡ words_book words) (slot slot' : Slot T) (p0 p1 p2 p3 : Pass) (for : IsPassFor words p0) (sole : IsSole p0.id)
+module _ {T : Type 0} (words : Words T) (numbers : Numbers T) (are : AreSlots numbers) (of : numbers.book.name ≡ words_book words) (slot slot' : Slot T) (p0 p1 p2 p3 : Pass) (for : IsPassOf words p0) (sole : IsSole p0.id)
     (s : ℕ) (led : IsLedBy s p0 p1) (found : IsSlotOf words slot × IsInactive slot × (its_number slot ≡ s)) (key' : NumbersKey) (known : LooksOn p1 p2 × FollowsNumbers numbers.key p2 key' × IsPrefix (numbers_saw numbers.key) p2.seen)
     (used : use_flags key' ≡ use_flags numbers.key) (its : IsSlotOf words slot') (looked : SlotLooks slot p2 slot' p3) where
   sole1 : IsSole p1.id

@@ -29,7 +29,7 @@ use Rattle.seize_words.specs.declared.words.Words.{Words}
 use Rattle.seize_calls.specs.Aparts.{without_puts}
 use Rattle.seize_calls.specs.Furthers.{further_in}
 use Rattle.seize_calls.specs.Handing.{Had, IsServed}
-use Rattle.seize_calls.specs.Slots.{IsInUse, IsInactive, IsOfList, IsOfWords, IsPassFor, IsSlotOf, IsToAttempt, SlotLooks, SlotResumes, SlotTakes, seen_book, its_number}
+use Rattle.seize_calls.specs.Slots.{IsInUse, IsInactive, IsOfList, IsOfWords, IsPassOf, IsSlotOf, IsToAttempt, SlotLooks, SlotResumes, SlotTakes, seen_book, its_number}
 use Rattle.seize_calls.specs.declared.further.Further.{Further}
 use Rattle.seize_calls.specs.declared.slot.Slot.{Slot}
 use Rattle.seize_calls.proofs.Current.{looked_active, shown}
@@ -131,12 +131,12 @@ module _ {T : Type 0} (c : Coded T) (n : ℕ) (p0 p1 : Pass) (answer : Answer) (
       }
 
   -- A call has begun. The slot goes on with it, and looks at the list.
-  module _ (words : Words T) (for : IsPassFor words p0) (slot1 slot2 slot3 : Slot T) (p2 p3 : Pass) (at : its_number slot1 ≡ n) (its : IsOfWords words slot1) (begun : IsToAttempt slot1) (took : TookAgain p0 slot1 p1) (had : Had) (of2 : IsOfWords words slot2)
+  module _ (words : Words T) (for : IsPassOf words p0) (slot1 slot2 slot3 : Slot T) (p2 p3 : Pass) (at : its_number slot1 ≡ n) (its : IsOfWords words slot1) (begun : IsToAttempt slot1) (took : TookAgain p0 slot1 p1) (had : Had) (of2 : IsOfWords words slot2)
       (resumed : SlotResumes slot1 p1 [] slot2 p2 (without_puts had)) (looked : SlotLooks slot2 p2 slot3 p3) (idle : IsInUse slot3) (off : active_of slot2.holder.key ≡ false) (off1 : IsInactive slot1) where
     sole1' : IsSole p1.id
     sole1' = still_sole p0 p1 makes.same makes.sole
 
-    for1 : IsPassFor words p1
+    for1 : IsPassOf words p1
     for1 = still_for words p0 p1 for makes.same
 
     -- the slot's record, as its key knows it
@@ -153,7 +153,7 @@ module _ {T : Type 0} (c : Coded T) (n : ℕ) (p0 p1 : Pass) (answer : Answer) (
     sole2 : IsSole p2.id
     sole2 = still_sole p1 p2 led2.same sole1'
 
-    for2 : IsPassFor words p2
+    for2 : IsPassOf words p2
     for2 = still_for words p1 p2 for1 led2.same
 
     at2 : its_number slot2 ≡ n

@@ -9,7 +9,7 @@ use Rattle.seize_book.specs.Tokens.{Name}
 use Rattle.seize_book.specs.declared.book.pass.Pass.{Pass}
 use Rattle.seize_words.specs.Joined.{words_book}
 use Rattle.seize_words.specs.declared.words.Words.{Words}
-use Rattle.seize_calls.specs.Slots.{IsPassFor, IsSlotOf, SlotLooks, its_number}
+use Rattle.seize_calls.specs.Slots.{IsPassOf, IsSlotOf, SlotLooks, its_number}
 use Rattle.seize_calls.specs.declared.slot.Slot.{Slot}
 use Rattle.seize_calls.proofs.Current.{shown}
 use Rattle.seize_alone.specs.Begins.{IsUsedAs}
@@ -43,7 +43,7 @@ owned_is : (b : Bool) → is_owned (kind_if_owned b) ≡ true → b ≡ true
 owned_is true is = refl
 owned_is false is = absurd (cc)
 
-module _ {T : Type 0} (words : Words T) (slot slot' : Slot T) (p p' : Pass) (for : IsPassFor words p) (of : IsSlotOf words slot) (of' : IsSlotOf words slot') (looks : SlotLooks slot p slot' p') where
+module _ {T : Type 0} (words : Words T) (slot slot' : Slot T) (p p' : Pass) (for : IsPassOf words p) (of : IsSlotOf words slot) (of' : IsSlotOf words slot') (looks : SlotLooks slot p slot' p') where
   pub used_left : (most guards : ℕ) → guards ≤ most → active_of slot'.holder.key ≡ not (guards == 0) → IsUsedAs (state_seen p') (its_number slot) (kind_if_owned (most == 1), guards)
   used_left most guards fits active = let so = shown slot slot' p p' looks (of.0.book ∙ for.0) in record {
     used = ap (λ (r : machine.Slot). r.used) so.0 ∙ (and_true (slot_of slot'.holder.key).used _ of'.1).0 ∙ in_use (most == 1);

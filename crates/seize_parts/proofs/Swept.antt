@@ -27,7 +27,7 @@ use Rattle.seize_calls.proofs.Alone.{alone_none, alone_noted, alone_twice, answe
 use Rattle.seize_calls.specs.Alone.{AddsAlone}
 use Rattle.seize_calls.specs.Handing.{Had}
 use Rattle.seize_calls.specs.Settling.{done_event}
-use Rattle.seize_calls.specs.Slots.{IsOfWords, IsPassFor, Prepares, SlotEnters, SlotFlushes, SlotLeaves, SlotLooks, SlotResumes, its_number}
+use Rattle.seize_calls.specs.Slots.{IsOfWords, IsPassOf, Prepares, SlotEnters, SlotFlushes, SlotLeaves, SlotLooks, SlotResumes, its_number}
 use Rattle.seize_calls.specs.declared.slot.Slot.{Slot}
 use Rattle.seize_words.specs.declared.activation.Activation.{Activation}
 use Rattle.seize_words.specs.declared.words.Words.{Words}
@@ -235,7 +235,7 @@ module _ {T : Type 0} (slot : Slot T) (pass : Pass) (slot' : Slot T) (pass' : Pa
       ap (λ (st : State). is_active (head_at st (its_number slot))) (sym (ap (λ (log : List Entry). after (start e.ready.name) log) (e.does.2.0.alone (prepared_sole slot pass e.ready e.prepares sole)) ∙ prepared_same slot pass e.ready e.prepares sole))
       ∙ enter_off e.ready.size (its_number slot) (after (start e.ready.name) e.does.2.0.before) _ (step_added e.ready pass' _ e.does.2.0)
 
-  module _ (words : Words T) (of : IsOfWords words slot') (for : IsPassFor words pass) (before ended : Had) where
+  module _ (words : Words T) (of : IsOfWords words slot') (for : IsPassOf words pass) (before ended : Had) where
     pub flushes : (retired : Bool) → SlotFlushes slot pass before slot' pass' ended retired → IsLedBy (its_number slot) pass pass'
     flushes retired e =
         led_call slot pass e.ready e.prepares sole (its_number slot) Flush pass' (slot_flushes (λ _ _ _. Unit {0}) pass' (any_puts pass'.seen) words slot pass slot' of for before ended (any_put pass'.seen ended) retired e).0 e.does.rests.alone

@@ -28,7 +28,7 @@ use Rattle.seize_calls.specs.Batches.{keys_in}
 use Rattle.seize_calls.specs.Calls.{BeginsSo, Flushes, Leaves, Rests, Resumes, RetiresOne, Returns}
 use Rattle.seize_calls.specs.Handing.{Had}
 use Rattle.seize_calls.specs.Settling.{CallState, Drains, done_event}
-use Rattle.seize_calls.specs.Slots.{CallsWith, IsOfWords, IsPassFor, SlotFlushes, SlotGathers, SlotLeaves, SlotRefreshes, SlotResumes, SlotRetires, SlotTakes, its_number, its_value}
+use Rattle.seize_calls.specs.Slots.{CallsWith, IsOfWords, IsPassOf, SlotFlushes, SlotGathers, SlotLeaves, SlotRefreshes, SlotResumes, SlotRetires, SlotTakes, its_number, its_value}
 use Rattle.seize_calls.specs.Walking.{handed_in, steps}
 use Rattle.seize_calls.specs.declared.slot.Loose.{Loose}
 use Rattle.seize_calls.specs.declared.slot.Slot.{Slot}
@@ -182,7 +182,7 @@ module _ (IsPut : Pass → ℕ → List ℕ → Type 0) (pass' : Pass) (gives : 
 
   -- The calls of a slot as one value, with the reclaimer of a collector.
 
-  module _ {T : Type 0} (words : Words T) (slot : Slot T) (pass : Pass) (slot' : Slot T) (of : IsOfWords words slot') (for : IsPassFor words pass) where
+  module _ {T : Type 0} (words : Words T) (slot : Slot T) (pass : Pass) (slot' : Slot T) (of : IsOfWords words slot') (for : IsPassOf words pass) where
     -- what the pass has seen is a legal list then, since it is what the slot has seen
     seen_legal : (Does : Pass → Type 0) (calls : CallsWith slot pass slot' pass' Does) → IsSamePass calls.ready pass' → IsLegalList (start pass'.name) pass'.seen
     seen_legal Does calls same =
@@ -222,7 +222,7 @@ module _ (IsPut : Pass → ℕ → List ℕ → Type 0) (pass' : Pass) (gives : 
           (beginning calls.ready a.life (SwapOut (slot_number slot.holder.key))) refl calls.does))).0
 
   -- A slot's number is taken again, or the slot begins to gather; and then its call goes on.
-  module _ {T : Type 0} (words : Words T) (before : Slot T) (p : Pass) (slot : Slot T) (mid : Pass) (slot' : Slot T) (of : IsOfWords words slot') (for : IsPassFor words p) (had : Had) (had' : Had) (all : AllHad gives had') where
+  module _ {T : Type 0} (words : Words T) (before : Slot T) (p : Pass) (slot : Slot T) (mid : Pass) (slot' : Slot T) (of : IsOfWords words slot') (for : IsPassOf words p) (had : Had) (had' : Had) (all : AllHad gives had') where
     resumed : (first : Event) → changes_slot (its_number before) first ≡ true → (begins : CallsWith before p slot mid (λ q. AddsEvent before.holder.key q slot.holder.key mid first))
         → ((q : Pass) → AddsEvent before.holder.key q slot.holder.key mid first → MakesOne q mid first Done) → SlotResumes slot mid had slot' pass' had' → MakesWhole IsPut (its_number before) first p pass'
     resumed first changes begins one resumes = record { steps = call.steps; its = call.its; made = none_then none call.made; undivided = undivided_after none call.undivided }

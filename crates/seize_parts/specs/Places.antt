@@ -17,7 +17,7 @@ use Rattle.seize_book.specs.declared.book.pass.Pass.{Pass}
 use Rattle.seize_words.specs.Joined.{words_book}
 use Rattle.seize_words.specs.declared.words.Words.{Words}
 use Rattle.seize_calls.specs.Handing.{Had}
-use Rattle.seize_calls.specs.Slots.{IsPassFor, its_number}
+use Rattle.seize_calls.specs.Slots.{IsPassOf, its_number}
 use Rattle.seize_calls.specs.declared.slot.Slot.{Slot}
 use Rattle.seize_alone.specs.Gone.{PutAs}
 use Rattle.seize_parts.specs.Placing.{Lies, what_lies_in}
@@ -32,7 +32,7 @@ pub record IsUnmoved (pass pass' : Pass) : Type 0 where
   pub alone : IsSole pass.id → pass'.seen ≡ pass.seen
 
 abbrev pub IsOnly : {T : Type 0} → Words T → Reservation T → Pass → Type 0
-IsOnly words r pass = IsReservationOf words r × (r.most ≡ 1) × IsPassFor words pass × IsSole pass.id
+IsOnly words r pass = IsReservationOf words r × (r.most ≡ 1) × IsPassOf words pass × IsSole pass.id
 
 pub record CallsSlot {T Seen : Type 0} (code : T → Gv) (puts : ℕ → T → List T) (told : Seen → T → Seen) (r : Reservation T) (pass : Pass)
     (r' : Reservation T) (pass' : Pass) (seen seen' : Seen) (Does : Slot T → Pass → Slot T → Pass → Had → Type 0) : Type 0 where

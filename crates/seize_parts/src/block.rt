@@ -1,19 +1,27 @@
-//! Blocks in one owner's hands: each holds one value, from its making until it ends. What a guard found in a link, or took out of one, has
-//! types of its own above (`seize`).
+//! Blocks: each holds one value, from its making until it ends. These types say who may read the value and who may end it: an `Owned` block
+//! is in its owner's hands, a `Shared` one was found in a link, and an `Unlinked` one is in no link, and is to be retired.
 ghost use Rattle.std.specs.Prelude.{◌≡◌, IfSome};
 ghost use Rattle.seize_words.specs.Joined.{IsNewTo, words_book};
 ghost use Rattle.seize_words.specs.LinkWords.{value_held};
 ghost use Rattle.seize_parts.specs.Blocks.{Belongs, IsNamed};
 ghost use Rattle.seize_parts.specs.Enders.{IsEnderOf};
 
+mod failed;
+mod making;
 mod owned;
+mod shared;
+mod unlinked;
 
 use crate::ender::Ender;
 use crate::reclaim::Reclaim;
+pub use failed::Failed;
+pub use making::{add_block, from_owned, show};
 pub use owned::Owned;
 use seize_words::book::Pass;
 use seize_words::link::MaybeKey;
 use seize_words::words::Words;
+pub use shared::Shared;
+pub use unlinked::Unlinked;
 
 /// The word of the block that is to go into a link, and the key of its value; or that of none.
 pub fn name<T: Drop, R: Reclaim<T>>(

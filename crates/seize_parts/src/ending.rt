@@ -6,7 +6,7 @@ ghost use Rattle.seize_book.specs.Tokens.{IsSole};
 ghost use Rattle.seize_words.specs.Joined.{words_book};
 ghost use Rattle.seize_words.specs.Rows.{AreShared, IsSharedAt};
 ghost use Rattle.seize_parts.specs.Enders.{IsEnderOf};
-ghost use Rattle.seize_calls.specs.Slots.{InActivation, IsInactive, IsPassFor, IsSlotOf, KeepsActivation};
+ghost use Rattle.seize_calls.specs.Slots.{InActivation, IsInactive, IsPassOf, IsSlotOf, KeepsActivation};
 ghost use Rattle.seize_parts.specs.Numbers.{AreNumbers, IsLockFor, KnowsLeast};
 
 use crate::ender::Ender;
@@ -34,7 +34,7 @@ pub fn end_all<T: Drop, R: Reclaim<T>>(
     pass: Pass,
 )
     requires numbers { AreNumbers numbers × KnowsLeast numbers × IsLockFor words.now numbers }
-    requires pass { IsPassFor words.now pass × IsSole pass.id }
+    requires pass { IsPassOf words.now pass × IsSole pass.id }
     requires ender { IsEnderOf words.now ender.now }
     requires shared { AreShared words.now.links }
 {
@@ -54,7 +54,7 @@ fn end_links<T: Drop, R: Reclaim<T>>(
 )
     requires shared { AreShared words.now.links }
     requires slot { IsSlotOf words.now slot × IsInactive slot }
-    requires pass { IsPassFor words.now pass.old × IsSole pass.old.id }
+    requires pass { IsPassOf words.now pass.old × IsSole pass.old.id }
     requires ender { IsEnderOf words.now ender.now }
 {
     let mut slot = slot;
@@ -85,7 +85,7 @@ fn empty<T: Drop, R: Reclaim<T>>(
     pass: &mut Pass,
 )
     requires slot { IsSlotOf words.now slot.old × InActivation slot.old activation.now }
-    requires pass { IsPassFor words.now pass.old × IsSole pass.old.id }
+    requires pass { IsPassOf words.now pass.old × IsSole pass.old.id }
     requires ender { IsEnderOf words.now ender.now }
     requires link { (link < length (words_book words.now).links) × IsSharedAt words.now.links link }
     ensures slot { IsSlotOf words.now slot.new × KeepsActivation slot.old slot.new }

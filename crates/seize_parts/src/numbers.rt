@@ -2,7 +2,7 @@
 //! as they ended. They lie behind a lock of the collector.
 ghost use Rattle.std.specs.Prelude.{◌≡◌, ◌≤◌, IfErr, IfNone, IfOk, IfSome, None, Some, is_some};
 ghost use Rattle.std.specs.List.{position};
-ghost use Rattle.seize_calls.specs.Slots.{IsPassFor, its_number};
+ghost use Rattle.seize_calls.specs.Slots.{IsPassOf, its_number};
 ghost use Rattle.seize_words.specs.Joined.{words_book};
 ghost use Rattle.seize_words.specs.Named.{numbers_book};
 ghost use Rattle.seize_words.specs.Reserved.{HasNextSlot};
@@ -151,7 +151,7 @@ impl<T: Drop> Numbers<T> {
     ) -> Result<Taken<T>, Refusal>
         requires numbers { AreNumbers self.old × (self.old.book.name ≡ words_book words.now) }
         requires least { KnowsLeast self.old }
-        requires pass { IsPassFor words.now pass.old }
+        requires pass { IsPassOf words.now pass.old }
         ensures numbers { AreNumbers self.new × (self.new.book ≡ self.old.book) × KnowsLeast self.new }
         ensures made { IfOk result (λ made. HasTaken words.now pass.old pass.new made.slot made.begun × IsShelfFor words.now made.shelf) }
         ensures refused { IfErr result (λ refusal. TakesNone pass.old pass.new refusal) }
@@ -172,7 +172,7 @@ impl<T: Drop> Numbers<T> {
     #[inline(always)]
     fn again(&mut self, words: &Words<T>, n: usize, pass: &mut Pass) -> (Slot<T>, bool)
         requires numbers { AreSlots self.old × (self.old.book.name ≡ words_book words.now) }
-        requires pass { IsPassFor words.now pass.old }
+        requires pass { IsPassOf words.now pass.old }
         requires first { position is_some self.old.slots.items ≡ Some n }
         ensures numbers { AreSlots self.new × (self.new.book ≡ self.old.book) × KnowsLeast self.new × (rest_of self.new.key ≡ []) }
         ensures places { (self.new.slots.items ≡ slice_set self.old.slots.items n None) × (self.new.kept ≡ self.old.kept) }
@@ -193,7 +193,7 @@ impl<T: Drop> Numbers<T> {
     #[inline(never)]
     fn make(&mut self, words: &Words<T>, alloc: Global, pass: &mut Pass) -> Result<Slot<T>, Refusal>
         requires numbers { AreNumbers self.old × (self.old.book.name ≡ words_book words.now) }
-        requires pass { IsPassFor words.now pass.old }
+        requires pass { IsPassOf words.now pass.old }
         requires taken { position is_some self.old.slots.items ≡ None }
         requires least { KnowsLeast self.old }
         ensures numbers { AreNumbers self.new × (self.new.book ≡ self.old.book) × KnowsLeast self.new }
@@ -226,7 +226,7 @@ impl<T: Drop> Numbers<T> {
     #[inline(always)]
     fn give(&mut self, words: &Words<T>, slot: Slot<T>, pass: &mut Pass)
         requires numbers { AreSlots self.old × (self.old.book.name ≡ words_book words.now) }
-        requires pass { IsPassFor words.now pass.old }
+        requires pass { IsPassOf words.now pass.old }
         requires slot { MayEnd words.now slot × MayGiveBack self.old slot }
         ensures numbers { AreSlots self.new × (self.new.book ≡ self.old.book) × (self.new.kept ≡ self.old.kept) }
         ensures least { KnowsLeast self.old → KnowsLeast self.new }
@@ -246,7 +246,7 @@ impl<T: Drop> Numbers<T> {
     #[inline(always)]
     pub fn end(&mut self, words: &Words<T>, slot: Slot<T>, pass: &mut Pass) -> Option<Slot<T>>
         requires numbers { AreNumbers self.old × (self.old.book.name ≡ words_book words.now) × KnowsLeast self.old }
-        requires pass { IsPassFor words.now pass.old }
+        requires pass { IsPassOf words.now pass.old }
         requires slot { MayEnd words.now slot }
         ensures numbers { AreNumbers self.new × (self.new.book ≡ self.old.book) × KnowsLeast self.new }
         ensures gives { IfNone result (MakesOne pass.old pass.new (Give (its_number slot)) Done) }
@@ -282,7 +282,7 @@ impl<T: Drop> Numbers<T> {
         pass: &mut Pass,
     ) -> Option<Slot<T>>
         requires numbers { AreNumbers self.old × IsLockFor words.now self.old × KnowsLeast self.old }
-        requires pass { IsPassFor words.now pass.old × IsSole pass.old.id }
+        requires pass { IsPassOf words.now pass.old × IsSole pass.old.id }
         requires ender { IsEnderOf words.now ender.now }
         ensures numbers { AreNumbers self.new × IsLockFor words.now self.new }
         ensures same { IsSamePass pass.old pass.new }

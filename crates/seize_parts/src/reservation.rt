@@ -44,7 +44,7 @@ impl<T: Drop> Reservation<T> {
     ghost use Rattle.seize_parts.specs.Aparts.{KeepsAside, MayDrain};
     ghost use Rattle.seize_parts.specs.Enders.{IsEnderOf};
     ghost use Rattle.seize_parts.specs.Places.{IsUnmoved};
-    ghost use Rattle.seize_calls.specs.Slots.{InActivation, IsInactive, IsPassFor, IsSlotOf, its_number};
+    ghost use Rattle.seize_calls.specs.Slots.{InActivation, IsInactive, IsPassOf, IsSlotOf, its_number};
     ghost use Rattle.seize_book.specs.Tokens.{IsSole};
     ghost use Rattle.seize_parts.specs.Makes.{MakesOne, StaysActive};
     ghost use Rattle.seize_parts.specs.Reservations.{IsHeadFor, IsReservationOf, IsUnit, KeepsPlace, place_label};
@@ -69,7 +69,7 @@ impl<T: Drop> Reservation<T> {
     /// The slot enters with its first guard. It gives the guard's unit, and what was seen then.
     #[inline(always)]
     pub fn enter(&mut self, words: &Words<T>, head: &Head, pass: &mut Pass) -> (Activation, Seen)
-        requires of { IsReservation self.old × IsReservationOf words.now self.old × IsPassFor words.now pass.old }
+        requires of { IsReservation self.old × IsReservationOf words.now self.old × IsPassOf words.now pass.old }
         requires head { IsHeadFor (words_book words.now) (its_number self.old.slot) head.now }
         requires first { (self.old.guards ≡ 0) × (0 < self.old.most) }
         ensures follows { KeepsPlace self.old self.new }
@@ -87,7 +87,7 @@ impl<T: Drop> Reservation<T> {
     /// One guard more beside others. No event is made; the pass learns that the slot is active.
     #[inline(always)]
     pub(crate) fn enter_beside(&mut self, words: &Words<T>, pass: &mut Pass) -> (Activation, Seen)
-        requires of { IsReservation self.old × IsReservationOf words.now self.old × IsPassFor words.now pass.old }
+        requires of { IsReservation self.old × IsReservationOf words.now self.old × IsPassOf words.now pass.old }
         requires beside { (0 < self.old.guards) × (self.old.guards < self.old.most) }
         ensures follows { KeepsPlace self.old self.new }
         ensures unit { IsUnit (words_book words.now) (its_number self.old.slot) result.0 result.1 }
@@ -102,7 +102,7 @@ impl<T: Drop> Reservation<T> {
     /// The slot has a guard, so the pass learns that it is active. No event is made, and nothing is done when the program runs.
     #[inline(always)]
     pub fn look(&mut self, words: &Words<T>, pass: &mut Pass)
-        requires of { IsReservation self.old × IsReservationOf words.now self.old × IsPassFor words.now pass.old }
+        requires of { IsReservation self.old × IsReservationOf words.now self.old × IsPassOf words.now pass.old }
         requires some { 0 < self.old.guards }
         ensures follows { KeepsPlace self.old self.new × (self.new.guards ≡ self.old.guards) × (self.new.most ≡ self.old.most) }
         ensures slot { IsSlotOf words.now self.new.slot × InActivation self.new.slot self.new.rest }
@@ -117,7 +117,7 @@ impl<T: Drop> Reservation<T> {
     /// The slot is active, as a guard's unit says. The pass learns that, and no event is made. It does nothing when the program runs.
     #[inline(always)]
     pub fn current(&mut self, words: &Words<T>, unit: &Activation, seen: &Seen, pass: &mut Pass)
-        requires of { IsReservation self.old × IsReservationOf words.now self.old × IsPassFor words.now pass.old }
+        requires of { IsReservation self.old × IsReservationOf words.now self.old × IsPassOf words.now pass.old }
         requires unit { IsUnit (words_book words.now) (its_number self.old.slot) unit.now seen.now }
         ensures follows { KeepsPlace self.old self.new × (self.new.guards ≡ self.old.guards) × (self.new.rest ≡ self.old.rest) }
         ensures active { (0 < self.old.guards) × IsSlotOf words.now self.new.slot × InActivation self.new.slot unit.now }
@@ -143,7 +143,7 @@ impl<T: Drop> Reservation<T> {
     ) -> Option<Slot<T>>
         requires of { IsReservation self × IsReservationOf words.now self }
         requires forgotten { IfSome forgotten (IsForgottenOf (words_book words.now).family) }
-        requires pass { IsPassFor words.now pass.old × IsSole pass.old.id }
+        requires pass { IsPassOf words.now pass.old × IsSole pass.old.id }
         requires ender { IsEnderOf words.now ender.now }
         requires queue { MayDrain T.row.coded.code (words_book words.now) aside.old.queue }
         ensures led { IsLedBy (its_number self.slot) pass.old pass.new }

@@ -3,7 +3,10 @@
 //! what was forgotten (`numbers`).
 ghost use Rattle.std.specs.Prelude.{◌≡◌, ℕ, IfErr, IfOk, IfSome};
 ghost use base.Stored.{coded_ℕ};
+ghost use mathlib.Core.List.{IsPrefix};
 ghost use Rattle.std_alloc.specs.Arc.{arc_value};
+ghost use Rattle.seize_book.specs.Passes.{IsSamePass, MadeNone};
+ghost use Rattle.seize_parts.specs.Makes.{MakesNone};
 ghost use Rattle.seize_parts.specs.Shelves.{AreOfFamily, IsLaidFor, IsForgottenOf};
 ghost use Rattle.seize_parts.specs.Reservations.{IsReservation, IsUnit};
 
@@ -74,7 +77,7 @@ struct Forgetting {
 impl<'p, T: Drop> LockWork<Laid<T>, Pass<'p>, ()> for Forgetting {
     ghost may = { λ work laid pass. IsForgottenOf laid.book.name.family work.forgotten × (pass.name.family ≡ laid.book.name.family) };
 
-    ghost gives = { λ _ _ _ _ _ _. Unit {0} };
+    ghost gives = { λ _ _ _ pass pass' _. IsSamePass pass pass' × IsPrefix pass.seen pass'.seen × MadeNone pass pass' };
 
     fn work(self, laid: &mut Laid<T>, pass: &mut Pass<'p>) {
         let forgotten = match laid.forgotten.take() {
@@ -173,9 +176,11 @@ impl<T: Drop> Shelf<T> {
     pub fn forget(&self, number: usize, unit: Activation, seen: Seen, pass: &mut Pass)
         requires unit { IsUnit seen.name number unit seen × (seen.name.family ≡ self.now) }
         requires pass { pass.old.name.family ≡ self.now }
+        ensures none { MakesNone pass.old pass.new }
     {
         let forgotten = Forgotten::one(number, unit, seen);
         drop(self.laid.try_with(Forgetting { forgotten }, pass));
+        pass.slots();
     }
 
     /// Lays this there, where nothing lies. It takes no memory and waits for nobody: see `lay`.

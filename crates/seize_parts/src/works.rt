@@ -1,6 +1,6 @@
 //! Each call of a guard or a registration, as a work on the slot's reservation.
 ghost use Rattle.std.specs.Prelude.{◌≡◌, ◌+◌, ◌⊎◌, ◌<◌, IfErr, IfOk};
-ghost use Rattle.seize_calls.specs.Slots.{IsLooseOf, IsPassFor, its_number, its_value};
+ghost use Rattle.seize_calls.specs.Slots.{IsLooseOf, IsPassOf, its_number, its_value};
 ghost use Rattle.seize_words.specs.Chunks.{IsBlockIn};
 ghost use Rattle.seize_words.specs.Joined.{words_book};
 ghost use Rattle.seize_machine.specs.declared.machine.event.Job.TheVariants.{Flush, Leave, Refresh, Retire};
@@ -37,7 +37,7 @@ pub struct Entering<'a, T> {
 
 impl<'a, 'p, T: Drop> LockWork<Reservation<T>, Pass<'p>, Result<(Activation, Seen), Refusal>>
     for Entering<'a, T> {
-    ghost may = { λ work r pass. IsReservationOf work.words.now r × IsPassFor work.words.now pass
+    ghost may = { λ work r pass. IsReservationOf work.words.now r × IsPassOf work.words.now pass
         × IsHeadFor (words_book work.words.now) (its_number r.slot) work.head.now };
 
     ghost gives = { λ work r r' pass pass' result. let s = its_number r.slot in
@@ -69,26 +69,25 @@ pub struct Adding<'a, T: Drop> {
     pub value: T,
 }
 
-impl<'a, 'p, T: Drop> LockWork<
+impl<'a, T: Drop> LockWork<
     Reservation<T>,
-    Pass<'p>,
+    (),
     Result<(ValueKey, Bare<Header, Part, T>), (Refusal, T)>,
 > for Adding<'a, T> {
-    ghost may = { λ work r pass. IsReservationOf work.words.now r × IsPassFor work.words.now pass };
+    ghost may = { λ work r _. IsReservationOf work.words.now r };
 
-    ghost gives = { λ work r r' pass pass' result. (pass' ≡ pass)
-        × IfOk result (λ made. IsBlockIn work.words.now.blocks work.value made.0 made.1)
+    ghost gives = { λ work _ _ _ _ result. IfOk result (λ made. IsBlockIn work.words.now.blocks work.value made.0 made.1)
         × IfErr result (λ refused. (refused.0 ≡ no_memory) × (refused.1 ≡ work.value)) };
 
     #[inline(always)]
     fn work(
         self,
         r: &mut Reservation<T>,
-        pass: &mut Pass<'p>,
+        _with: &mut (),
     ) -> Result<(ValueKey, Bare<Header, Part, T>), (Refusal, T)> {
         let Adding { words, value } = self;
         r.slot.seen().agree(&words.blocks.book);
-        r.slot.add(words, value, pass)
+        r.slot.add(words, value)
     }
 }
 
@@ -108,7 +107,7 @@ pub struct Retiring<'a, T: Drop, R: Reclaim<T>, W> {
 
 impl<'a, 'p, T: Drop, R: Reclaim<T>, W: Wait> LockWork<Reservation<T>, Pass<'p>, ()>
     for Retiring<'a, T, R, W> {
-    ghost may = { λ work r pass. IsReservationOf work.words.now r × IsPassFor work.words.now pass × IsLooseOf work.words.now work.loose
+    ghost may = { λ work r pass. IsReservationOf work.words.now r × IsPassOf work.words.now pass × IsLooseOf work.words.now work.loose
         × IsEnderOf work.words.now work.ender.now };
 
     ghost gives = { λ work r r' pass pass' _. MakesCall (PutBy T.row.coded.code R.puts) (its_number r.slot)
@@ -156,7 +155,7 @@ pub struct Deferring<'a, T: Drop, R: Reclaim<T>, W> {
 
 impl<'a, 'p, T: Drop, R: Reclaim<T>, W: Wait> LockWork<Reservation<T>, Pass<'p>, ()>
     for Deferring<'a, T, R, W> {
-    ghost may = { λ work r pass. IsReservationOf work.words.now r × IsPassFor work.words.now pass × IsLooseOf work.words.now work.loose
+    ghost may = { λ work r pass. IsReservationOf work.words.now r × IsPassOf work.words.now pass × IsLooseOf work.words.now work.loose
         × IsUnit (words_book work.words.now) (its_number r.slot) work.unit.now work.seen.now
         × IsEnderOf work.words.now work.ender.now };
 
@@ -203,7 +202,7 @@ pub struct Flushing<'a, T: Drop, R: Reclaim<T>, W> {
 
 impl<'a, 'p, T: Drop, R: Reclaim<T>, W: Wait> LockWork<Reservation<T>, Pass<'p>, ()>
     for Flushing<'a, T, R, W> {
-    ghost may = { λ work r pass. IsReservationOf work.words.now r × IsPassFor work.words.now pass
+    ghost may = { λ work r pass. IsReservationOf work.words.now r × IsPassOf work.words.now pass
         × IsUnit (words_book work.words.now) (its_number r.slot) work.unit.now work.seen.now
         × IsEnderOf work.words.now work.ender.now };
 
@@ -259,7 +258,7 @@ pub struct Refreshing<'a, T: Drop, R: Reclaim<T>, W> {
 
 impl<'a, 'p, T: Drop, R: Reclaim<T>, W: Wait> LockWork<Reservation<T>, Pass<'p>, (Activation, Seen)>
     for Refreshing<'a, T, R, W> {
-    ghost may = { λ work r pass. IsReservationOf work.words.now r × IsPassFor work.words.now pass
+    ghost may = { λ work r pass. IsReservationOf work.words.now r × IsPassOf work.words.now pass
         × IsUnit (words_book work.words.now) (its_number r.slot) work.unit work.seen.now
         × IsHeadFor (words_book work.words.now) (its_number r.slot) work.head.now
         × IsEnderOf work.words.now work.ender.now };
@@ -316,7 +315,7 @@ pub struct Leaving<'a, T: Drop, R: Reclaim<T>, W> {
 
 impl<'a, 'p, T: Drop, R: Reclaim<T>, W: Wait> LockWork<Reservation<T>, Pass<'p>, ()>
     for Leaving<'a, T, R, W> {
-    ghost may = { λ work r pass. IsReservationOf work.words.now r × IsPassFor work.words.now pass
+    ghost may = { λ work r pass. IsReservationOf work.words.now r × IsPassOf work.words.now pass
         × IsUnit (words_book work.words.now) (its_number r.slot) work.unit work.seen
         × IsHeadFor (words_book work.words.now) (its_number r.slot) work.head.now
         × IsEnderOf work.words.now work.ender.now };

@@ -1,6 +1,6 @@
 //! Guards of several slots, on one thread: whose leaving or refreshing ends what was retired, and how exchanges end.
 ghost use Rattle.std.specs.Prelude.{◌≡◌, ◌<◌, IfOk, IfSome};
-ghost use Rattle.seize.specs.Collectors.{IsBlockOf, IsPassOf, its_links};
+ghost use Rattle.seize.specs.Collectors.{IsBlockOf, IsPassOf, its_links, its_words};
 ghost use Rattle.seize.specs.Guards.{guard_collector};
 
 use seize::{Collector, Guard, IdSource, LocalGuard, Owned, Pass, Refusal};
@@ -15,7 +15,7 @@ pub(crate) type Counting<'a> = Collector<Counted<'a>>;
 
 // A collector with one link, and batches of this many values.
 pub(crate) fn collector<'a>(alloc: Global, size: usize) -> Result<Counting<'a>, Refusal>
-    ensures { IfOk result (λ made. 0 < its_links made) }
+    ensures { IfOk result (λ made. 0 < its_links (its_words made)) }
 {
     let made: Counting<'a> = Collector::new(alloc, &mut IdSource::new(), 1, 1)?;
     Ok(made.batch_size(size))
@@ -23,7 +23,7 @@ pub(crate) fn collector<'a>(alloc: Global, size: usize) -> Result<Counting<'a>, 
 
 // A block with a value that counts its end. Where the block is refused the value ends at once.
 fn block<'a>(collector: &Counting<'a>, ends: &'a AtomicU64) -> Option<Owned<Counted<'a>>>
-    ensures { IfSome result (λ owned. IsBlockOf collector.now owned) }
+    ensures { IfSome result (λ owned. IsBlockOf (its_words collector.now) owned) }
 {
     collector.owned(Counted { ends }).ok()
 }
@@ -49,7 +49,7 @@ pub(crate) fn retire<'a>(
 
 // Three guards of one slot: what another slot retires waits until the last of them leaves.
 fn leave_one_by_one<'a>(rt: &(impl Wait + Abort), collector: &Counting<'a>, ends: &'a AtomicU64)
-    requires { 0 < its_links collector.now }
+    requires { 0 < its_links (its_words collector.now) }
 {
     let mut pass = collector.pass();
     let reader = collector.register(rt, &mut pass).expect(rt, "memory");
@@ -83,7 +83,7 @@ fn the_last_of_three_guards_ends_what_waits(rt: HostRuntime) -> Result<(), Fail>
 
 // The same, but the guard that stays last refreshes: only then the values end, and what it refreshes beside others ends nothing.
 fn refresh_at_last<'a>(rt: &(impl Wait + Abort), collector: &Counting<'a>, ends: &'a AtomicU64)
-    requires { 0 < its_links collector.now }
+    requires { 0 < its_links (its_words collector.now) }
 {
     let mut pass = collector.pass();
     let reader = collector.register(rt, &mut pass).expect(rt, "memory");
@@ -113,7 +113,7 @@ fn a_lone_guard_ends_what_waits_by_a_refresh(rt: HostRuntime) -> Result<(), Fail
 
 // A flush attempts a batch that is not full: with one active slot one value is enough, and it ends when the slot leaves.
 fn flush_one<'a>(rt: &(impl Wait + Abort), collector: &Counting<'a>, ends: &'a AtomicU64)
-    requires { 0 < its_links collector.now }
+    requires { 0 < its_links (its_words collector.now) }
 {
     let mut pass = collector.pass();
     let writer = collector.register(rt, &mut pass).expect(rt, "memory");
@@ -136,8 +136,8 @@ fn a_flush_attempts_a_short_batch(rt: HostRuntime) -> Result<(), Fail> {
 
 // Registers so many times, one after the other: each time the number is 0, and goes back.
 fn register_often(rt: &(impl Wait + Abort), collector: &Collector<u64>, times: u64, pass: &mut Pass)
-    requires { IsPassOf collector.now pass.old }
-    ensures { IsPassOf collector.now pass.new }
+    requires { IsPassOf (its_words collector.now) pass.old }
+    ensures { IsPassOf (its_words collector.now) pass.new }
 {
     for _ in 0..times {
         let registration = collector.register(rt, pass).expect(rt, "memory");
@@ -153,7 +153,8 @@ fn numbers_are_used_again(rt: HostRuntime) -> Result<(), Fail> {
     let mut pass = collector.pass();
     register_often(&rt, &collector, 1000, &mut pass);
     let first = collector.register(&rt, &mut pass).expect(&rt, "memory");
-    first.enter(&mut pass).expect(&rt, "a guard").forget();
+    let guard = first.enter(&mut pass).expect(&rt, "a guard");
+    guard.forget(&mut pass);
     assert!(rt; !first.end(&rt, &mut pass));
     let second = collector.register(&rt, &mut pass).expect(&rt, "memory");
     assert_eq!(rt; second.thread_id(), 1);

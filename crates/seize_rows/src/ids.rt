@@ -1,5 +1,5 @@
 //! What collectors, registrations and guards say of themselves: ids, numbers and texts.
-use seize::{Collector, Guard, IdSource, Refusal, Unlinked};
+use seize::{Collector, Guard, IdSource, Refusal};
 use seize_test_kit::values::{Counted, ended};
 use std::alloc::{AllocError, Global};
 use std::fmt::Debug;
@@ -104,7 +104,7 @@ fn retire_one<'a>(
     let block = collector.owned(Counted { ends }).ok()?;
     let registration = collector.register(rt, &mut pass).expect(rt, "memory");
     let guard = registration.enter(&mut pass).expect(rt, "a guard");
-    guard.defer_retire(rt, &mut pass, Unlinked::from_owned(block, collector));
+    guard.defer_retire(rt, &mut pass, collector.unlinked(block));
     let before = ended(ends);
     guard.leave(rt, &mut pass);
     let between = ended(ends);

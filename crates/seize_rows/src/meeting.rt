@@ -1,6 +1,6 @@
 //! Two threads of which neither ends before it has seen the other: no call of one waits for a guard of the other's.
 ghost use Rattle.std.specs.Prelude.{◌≡◌, ◌<◌, IfOk};
-ghost use Rattle.seize.specs.Collectors.{IsPassOf, its_links};
+ghost use Rattle.seize.specs.Collectors.{IsPassOf, its_links, its_words};
 ghost use Rattle.seize.specs.Guards.{guard_collector};
 ghost use Rattle.seize.specs.Registrations.{registered_in};
 
@@ -16,7 +16,7 @@ const MOST: u64 = 10_000_000;
 
 // A collector of numbers with one link.
 pub(crate) fn collector(alloc: Global) -> Result<Collector<u64>, Refusal>
-    ensures { IfOk result (λ made. 0 < its_links made) }
+    ensures { IfOk result (λ made. 0 < its_links (its_words made)) }
 {
     Collector::new(alloc, &mut IdSource::new(), 1, 1)
 }
@@ -83,7 +83,7 @@ fn turn_until(
 
 // Registers for that.
 fn see_another(rt: &impl Wait, collector: &Collector<u64>, number: u64) -> Result<bool, Refusal>
-    requires { 0 < its_links collector.now }
+    requires { 0 < its_links (its_words collector.now) }
 {
     let mut pass = collector.pass();
     let registration = collector.register(rt, &mut pass)?;
@@ -97,15 +97,15 @@ fn two<R: Threads + Wait + Sync>(
     rt: &R,
     collector: &Collector<u64>,
 ) -> Result<(bool, bool), Refusal>
-    requires { 0 < its_links collector.now }
+    requires { 0 < its_links (its_words collector.now) }
 {
     let (one, other) = thread::join(
         rt,
         move || -> Result<bool, Refusal>
-            requires { 0 < its_links collector.now }
+            requires { 0 < its_links (its_words collector.now) }
         { see_another(rt, collector, 1) },
         move || -> Result<bool, Refusal>
-            requires { 0 < its_links collector.now }
+            requires { 0 < its_links (its_words collector.now) }
         { see_another(rt, collector, 2) },
     );
     Ok((one?, other?))

@@ -1,11 +1,11 @@
 //! Which calls ask for no memory. Each test gives a sign when it is set up, by a request for memory of a size that no other has. The script
 //! `tools/memory` runs these tests with each request after that refused.
 ghost use Rattle.std.specs.Prelude.{◌≡◌, ◌<◌, IfOk};
-ghost use Rattle.seize.specs.Collectors.{IsBlockOf, IsPassOf, its_links};
+ghost use Rattle.seize.specs.Collectors.{IsBlockOf, IsPassOf, its_links, its_words};
 ghost use Rattle.seize.specs.Guards.{guard_collector};
 ghost use Rattle.seize.specs.Registrations.{registered_in};
 
-use seize::{Collector, Guard, IdSource, LocalGuard, Owned, Pass, Refusal, Registration, Unlinked};
+use seize::{Collector, Guard, IdSource, LocalGuard, Owned, Pass, Refusal, Registration};
 use seize_test_kit::sign::give_sign;
 use seize_test_kit::values::{Counted, ended};
 use std::alloc::Global;
@@ -21,7 +21,7 @@ const LINKS: u64 = 10;
 
 // A collector with ten links, and batches of 32 values.
 fn collector<'a>(alloc: Global) -> Result<Collector<Counted<'a>>, Refusal>
-    ensures { IfOk result (λ made. its_links made ≡ 10) }
+    ensures { IfOk result (λ made. its_links (its_words made) ≡ 10) }
 {
     Collector::new(alloc, &mut IdSource::new(), 1, 10)
 }
@@ -125,7 +125,7 @@ fn make_all<'a>(
     collector: &Collector<Counted<'a>>,
     ends: &'a AtomicU64,
 ) -> Result<([u64; 4], bool, bool), Refusal>
-    requires { its_links collector.now ≡ 10 }
+    requires { its_links (its_words collector.now) ≡ 10 }
 {
     let mut pass = collector.pass();
     let registration = collector.register(rt, &mut pass)?;
@@ -134,7 +134,7 @@ fn make_all<'a>(
     let (ends, taken) = made?;
     let again = collector.register(rt, &mut pass)?;
     if let Ok(guard) = again.enter(&mut pass) {
-        guard.forget();
+        guard.forget(&mut pass);
     }
     again.forget();
     Ok((ends, taken, well))
@@ -176,8 +176,8 @@ fn make_four<'a>(
     collector: &Collector<Counted<'a>>,
     ends: &'a AtomicU64,
 ) -> Result<Four<'a>, Refusal>
-    ensures { IfOk result (λ made. IsBlockOf collector.now made.first × IsBlockOf collector.now made.second
-        × IsBlockOf collector.now made.third × IsBlockOf collector.now made.fourth) }
+    ensures { IfOk result (λ made. IsBlockOf (its_words collector.now) made.first × IsBlockOf (its_words collector.now) made.second
+        × IsBlockOf (its_words collector.now) made.third × IsBlockOf (its_words collector.now) made.fourth) }
 {
     Ok(Four {
         first: new(collector, ends)?,
@@ -192,7 +192,7 @@ fn new<'a>(
     collector: &Collector<Counted<'a>>,
     ends: &'a AtomicU64,
 ) -> Result<Owned<Counted<'a>>, Refusal>
-    ensures { IfOk result (IsBlockOf collector.now) }
+    ensures { IfOk result (IsBlockOf (its_words collector.now)) }
 {
     match collector.owned(Counted { ends }) {
         Ok(block) => Ok(block),
@@ -210,8 +210,8 @@ fn hand_on<'a>(
     blocks: Four<'a>,
     ends: &'a AtomicU64,
 ) -> [u64; 4]
-    requires first { IsBlockOf collector.now blocks.first × IsBlockOf collector.now blocks.second }
-    requires second { IsBlockOf collector.now blocks.third × IsBlockOf collector.now blocks.fourth }
+    requires first { IsBlockOf (its_words collector.now) blocks.first × IsBlockOf (its_words collector.now) blocks.second }
+    requires second { IsBlockOf (its_words collector.now) blocks.third × IsBlockOf (its_words collector.now) blocks.fourth }
 {
     let Four {
         first,
@@ -224,28 +224,20 @@ fn hand_on<'a>(
     let two = collector.register(rt, &mut pass).expect(rt, "memory");
     let last = collector.register(rt, &mut pass).expect(rt, "memory");
     assert!(rt; give_sign(alloc).is_ok());
-    one.retire(rt, &mut pass, Unlinked::from_owned(first, collector));
+    one.retire(rt, &mut pass, collector.unlinked(first));
     assert!(rt; one.end(rt, &mut pass));
-    two.retire(
-        rt,
-        &mut collector.pass(),
-        Unlinked::from_owned(second, collector),
-    );
+    two.retire(rt, &mut collector.pass(), collector.unlinked(second));
     assert!(rt; two.end(rt, &mut collector.pass()));
     let left = ended(ends);
     let mut its = collector.pass();
     let again = collector.register(rt, &mut its).expect(rt, "memory");
     let taken = ended(ends);
-    again.retire(rt, &mut its, Unlinked::from_owned(third, collector));
+    again.retire(rt, &mut its, collector.unlinked(third));
     assert!(rt; again.end(rt, &mut its));
     let mut its = collector.pass();
     let guard = collector.enter_owned(rt, &mut its).expect(rt, "memory");
     guard.leave(rt, &mut its);
-    last.retire(
-        rt,
-        &mut collector.pass(),
-        Unlinked::from_owned(fourth, collector),
-    );
+    last.retire(rt, &mut collector.pass(), collector.unlinked(fourth));
     let before = ended(ends);
     assert!(rt; last.end(rt, &mut collector.pass()));
     [left, taken, before, ended(ends)]

@@ -1,6 +1,6 @@
 //! Guards of one registration, one within another, which retire values by themselves.
 ghost use Rattle.std.specs.Prelude.{◌≡◌, ◌<◌, IfOk};
-ghost use Rattle.seize.specs.Collectors.{IsPassOf, its_links};
+ghost use Rattle.seize.specs.Collectors.{IsPassOf, its_links, its_words};
 ghost use Rattle.seize.specs.Guards.{guard_collector};
 
 use seize::{Collector, Guard, IdSource, LocalGuard, Pass, Refusal};
@@ -13,7 +13,7 @@ use std::test::*;
 
 // A collector with one link, and batches of one value.
 fn collector<'a>(alloc: Global) -> Result<Collector<Counted<'a>>, Refusal>
-    ensures { IfOk result (λ made. 0 < its_links made) }
+    ensures { IfOk result (λ made. 0 < its_links (its_words made)) }
 {
     let made: Collector<Counted<'a>> = Collector::new(alloc, &mut IdSource::new(), 1, 1)?;
     Ok(made.batch_size(1))
@@ -43,7 +43,7 @@ fn enter_thrice<'a>(
     collector: &Collector<Counted<'a>>,
     ends: &'a AtomicU64,
 )
-    requires { 0 < its_links collector.now }
+    requires { 0 < its_links (its_words collector.now) }
 {
     let mut pass = collector.pass();
     let registration = collector.register(rt, &mut pass).expect(rt, "memory");

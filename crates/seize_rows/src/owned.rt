@@ -1,10 +1,11 @@
 //! Owned guards, which threads share and which go from one thread to another.
 ghost use Rattle.std.specs.Prelude.{◌≡◌};
+ghost use Rattle.seize.specs.Collectors.{its_words};
 ghost use Rattle.seize.specs.Guards.{owned_collector};
 
 use crate::guards::collector as linked;
 use crate::worked::retire_elsewhere;
-use seize::{Collector, Guard, IdSource, OwnedGuard, Refusal, Unlinked};
+use seize::{Collector, Guard, IdSource, OwnedGuard, Refusal};
 use seize_test_kit::values::{Counted, ended};
 use std::alloc::Global;
 use std::sync::Wait;
@@ -22,16 +23,16 @@ fn collector<'a>(alloc: Global, size: usize) -> Result<Counting<'a>, Refusal> {
 }
 
 // A guard on its way to another thread: a closure holds only what has a `Drop`.
-pub(crate) struct Handed<'c, T: Drop>(pub(crate) OwnedGuard<'c, T>);
+struct Handed<'c, 'a>(OwnedGuard<'c, Counted<'a>>);
 
-impl<T: Drop> Drop for Handed<'_, T> {
+impl Drop for Handed<'_, '_> {
     fn drop(self) {
         let Handed(guard) = self;
         guard.forget();
     }
 }
 
-impl<T: Drop> Handed<'_, T> {
+impl Handed<'_, '_> {
     // The guard leaves.
     fn leave(self, rt: &impl Wait) {
         let Handed(guard) = self;
@@ -47,13 +48,13 @@ fn retire<'c, 'a>(
     guard: &OwnedGuard<'c, Counted<'a>>,
     ends: &'a AtomicU64,
 ) -> bool
-    requires { owned_collector guard.now ≡ collector.now }
+    requires { owned_collector guard.now ≡ its_words collector.now }
 {
     let mut pass = collector.pass();
     let Ok(owned) = collector.owned(Counted { ends }) else {
         return false;
     };
-    guard.defer_retire(rt, &mut pass, Unlinked::from_owned(owned, collector));
+    guard.defer_retire(rt, &mut pass, collector.unlinked(owned));
     guard.flush(rt, &mut pass);
     true
 }
@@ -65,15 +66,15 @@ fn two<'c, 'a, R: Threads + Wait + Sync>(
     guard: &OwnedGuard<'c, Counted<'a>>,
     ends: &'a AtomicU64,
 ) -> bool
-    requires { owned_collector guard.now ≡ collector.now }
+    requires { owned_collector guard.now ≡ its_words collector.now }
 {
     let (one, other) = thread::join(
         rt,
         move || -> bool
-            requires { owned_collector guard.now ≡ collector.now }
+            requires { owned_collector guard.now ≡ its_words collector.now }
         { retire(rt, collector, guard, ends) },
         move || -> bool
-            requires { owned_collector guard.now ≡ collector.now }
+            requires { owned_collector guard.now ≡ its_words collector.now }
         { retire(rt, collector, guard, ends) },
     );
     one && other
@@ -86,15 +87,15 @@ fn four<'c, 'a, R: Threads + Wait + Sync>(
     guard: &OwnedGuard<'c, Counted<'a>>,
     ends: &'a AtomicU64,
 ) -> bool
-    requires { owned_collector guard.now ≡ collector.now }
+    requires { owned_collector guard.now ≡ its_words collector.now }
 {
     let (one, other) = thread::join(
         rt,
         move || -> bool
-            requires { owned_collector guard.now ≡ collector.now }
+            requires { owned_collector guard.now ≡ its_words collector.now }
         { two(rt, collector, guard, ends) },
         move || -> bool
-            requires { owned_collector guard.now ≡ collector.now }
+            requires { owned_collector guard.now ≡ its_words collector.now }
         { two(rt, collector, guard, ends) },
     );
     one && other
@@ -119,10 +120,7 @@ fn four_threads_share_a_guard(rt: HostRuntime) -> Result<(), Fail> {
 }
 
 // The guard leaves on another thread.
-pub(crate) fn leave_elsewhere<T: Drop + Send + Sync, R: Threads + Wait + Sync>(
-    rt: &R,
-    handed: Handed<'_, T>,
-) {
+fn leave_elsewhere<R: Threads + Wait + Sync>(rt: &R, handed: Handed<'_, '_>) {
     thread::join(rt, move || handed.leave(rt), || {});
 }
 

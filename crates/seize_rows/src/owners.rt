@@ -1,6 +1,6 @@
 //! Values that own others: these end with them.
 ghost use Rattle.std.specs.Prelude.{◌≡◌, ◌<◌, IfOk};
-ghost use Rattle.seize.specs.Collectors.{IsBlockOf, IsPassOf, its_links};
+ghost use Rattle.seize.specs.Collectors.{IsBlockOf, IsPassOf, its_links, its_words};
 ghost use Rattle.seize.specs.Guards.{guard_collector};
 
 use seize::{Collector, Guard, IdSource, LocalGuard, Owned, Pass, Refusal};
@@ -32,7 +32,7 @@ impl<'a> Bundle<'a> {
 
 // A collector with one link, and batches of one value.
 fn collector<'a>(alloc: Global) -> Result<Collector<Bundle<'a>>, Refusal>
-    ensures { IfOk result (λ made. 0 < its_links made) }
+    ensures { IfOk result (λ made. 0 < its_links (its_words made)) }
 {
     let made: Collector<Bundle<'a>> = Collector::new(alloc, &mut IdSource::new(), 1, 1)?;
     Ok(made.batch_size(1))
@@ -63,7 +63,7 @@ fn put_two<'a>(
     other: Bundle<'a>,
     ends: &AtomicU64,
 )
-    requires { 0 < its_links collector.now }
+    requires { 0 < its_links (its_words collector.now) }
 {
     let mut pass = collector.pass();
     let registration = collector.register(rt, &mut pass).expect(rt, "memory");
@@ -83,7 +83,7 @@ fn own_three<'a>(
     collector: &Collector<Bundle<'a>>,
     ends: &'a AtomicU64,
 ) -> Result<(), AllocError>
-    requires { 0 < its_links collector.now }
+    requires { 0 < its_links (its_words collector.now) }
 {
     let one = Bundle::of_four(alloc, ends)?;
     let other = Bundle::of_four(alloc, ends)?;

@@ -1,11 +1,11 @@
 //! Blocks in places of a slot's own: they take no memory, also where the store has no free place left. It is run by `tools/memory` too.
 ghost use Rattle.std.specs.Prelude.{◌≡◌, ◌<◌, IfOk};
-ghost use Rattle.seize.specs.Collectors.{IsPassOf, its_links};
+ghost use Rattle.seize.specs.Collectors.{IsPassOf, its_links, its_words};
 ghost use Rattle.seize.specs.Guards.{guard_collector};
 ghost use Rattle.seize.specs.Registrations.{registered_in};
 
 use crate::memory::{block, put};
-use seize::{Collector, Guard, IdSource, LocalGuard, Pass, Refusal, Registration, Unlinked};
+use seize::{Collector, Guard, IdSource, LocalGuard, Pass, Refusal, Registration};
 use seize_test_kit::sign::give_sign;
 use seize_test_kit::values::{Counted, ended};
 use std::alloc::Global;
@@ -28,7 +28,7 @@ struct Ends<'a> {
 
 // A collector with one link, and batches of 32 values.
 fn collector<'a>(alloc: Global) -> Result<Collector<Counted<'a>>, Refusal>
-    ensures { IfOk result (λ made. 0 < its_links made) }
+    ensures { IfOk result (λ made. 0 < its_links (its_words made)) }
 {
     Collector::new(alloc, &mut IdSource::new(), 1, 1)
 }
@@ -108,7 +108,7 @@ fn use_up<'c, 'a>(
         let Ok(block) = collector.owned(Counted { ends: spent }) else {
             break;
         };
-        guard.defer_retire(rt, pass, Unlinked::from_owned(block, collector));
+        guard.defer_retire(rt, pass, collector.unlinked(block));
     }
     taken
 }
@@ -164,7 +164,7 @@ fn run<'a>(
     own: &'a AtomicU64,
     spent: &'a AtomicU64,
 ) -> Result<(u64, u64, u64), Refusal>
-    requires { 0 < its_links collector.now }
+    requires { 0 < its_links (its_words collector.now) }
 {
     let mut pass = collector.pass();
     let first = collector.register(rt, &mut pass)?;

@@ -1,11 +1,11 @@
 //! Calls that are made again where memory was refused: the second time each serves as if there had been no first one. The gate refuses
 //! them nothing; `tools/lacking seize_rows` refuses one request after another, and `tools/memory` all from a first sign on to a second one.
 ghost use Rattle.std.specs.Prelude.{◌≡◌};
-ghost use Rattle.seize.specs.Collectors.{IsPassOf};
+ghost use Rattle.seize.specs.Collectors.{IsPassOf, its_words};
 ghost use Rattle.seize.specs.Guards.{owned_collector};
 ghost use Rattle.seize.specs.Registrations.{registered_in};
 
-use seize::{Alone, Collector, IdSource, Owned, OwnedGuard, Pass, Refusal, Registration, Unlinked};
+use seize::{Alone, Collector, IdSource, Owned, OwnedGuard, Pass, Refusal, Registration};
 use seize_test_kit::sign::give_sign;
 use seize_test_kit::telling::{Telling, telling};
 use seize_test_kit::values::Digit;
@@ -36,8 +36,8 @@ fn register<'c>(
     collector: &'c Collector<u64>,
     pass: &mut Pass,
 ) -> Registration<'c, u64>
-    requires { IsPassOf collector.now pass.old }
-    ensures { IsPassOf collector.now pass.new × (registered_in result ≡ collector.now) }
+    requires { IsPassOf (its_words collector.now) pass.old }
+    ensures { IsPassOf (its_words collector.now) pass.new × (registered_in result ≡ its_words collector.now) }
 {
     match collector.register(rt, pass) {
         Ok(registration) => registration,
@@ -54,8 +54,8 @@ fn enter_owned<'c>(
     collector: &'c Collector<u64>,
     pass: &mut Pass,
 ) -> OwnedGuard<'c, u64>
-    requires { IsPassOf collector.now pass.old }
-    ensures { IsPassOf collector.now pass.new × (owned_collector result ≡ collector.now) }
+    requires { IsPassOf (its_words collector.now) pass.old }
+    ensures { IsPassOf (its_words collector.now) pass.new × (owned_collector result ≡ its_words collector.now) }
 {
     match collector.enter_owned(rt, pass) {
         Ok(guard) => guard,
@@ -102,17 +102,26 @@ fn retire<'a>(rt: &(impl Wait + Abort), collector: &Telling<'a>, digit: u64, tol
         .owned(Digit { digit, told })
         .ok()
         .expect(rt, "memory");
-    registration.retire(rt, &mut pass, Unlinked::from_owned(owned, collector));
+    registration.retire(rt, &mut pass, collector.unlinked(owned));
     assert!(rt; registration.end(rt, &mut pass));
     assert_eq!(rt; told.load(Ordering::SeqCst), 0);
+}
+
+// The registration enters, and its guard is forgotten.
+fn forget_guard(rt: &impl Abort, registration: &Registration<'_, Digit<'_>>, pass: &mut Pass)
+    requires { IsPassOf (registered_in registration.now) pass.old }
+    ensures { IsPassOf (registered_in registration.now) pass.new }
+{
+    let guard = registration.enter(pass).expect(rt, "a guard");
+    guard.forget(pass);
 }
 
 // Slot 0 is forgotten with two guards. Then 3 is retired.
 fn forget_two<'a>(rt: &(impl Wait + Abort), collector: &Telling<'a>, told: &'a AtomicU64) {
     let mut pass = collector.pass();
     let registration = collector.register(rt, &mut pass).expect(rt, "memory");
-    registration.enter(&mut pass).expect(rt, "a guard").forget();
-    registration.enter(&mut pass).expect(rt, "a guard").forget();
+    forget_guard(rt, &registration, &mut pass);
+    forget_guard(rt, &registration, &mut pass);
     registration.forget();
     retire(rt, collector, 3, told);
 }

@@ -1,12 +1,12 @@
 //! Worked rows: calls of one or two slots in an order that is written down, which values end at which of them, and in which order.
 ghost use Rattle.std.specs.Prelude.{◌≡◌, ◌<◌};
-ghost use Rattle.seize.specs.Collectors.{IsPassOf, its_links};
+ghost use Rattle.seize.specs.Collectors.{IsPassOf, its_links, its_words};
 ghost use Rattle.seize.specs.Guards.{guard_collector};
+ghost use Rattle.seize.specs.Registrations.{registered_in};
 
 use crate::guards::{Counting, collector, retire};
 use crate::meeting;
-use crate::owned::{Handed, leave_elsewhere};
-use seize::{Collector, Guard, IdSource, LocalGuard, Pass, Unlinked};
+use seize::{Collector, Guard, IdSource, LocalGuard, OwnedGuard, Pass, Registration};
 use seize_test_kit::telling::{Telling, defer, defer_alone, telling};
 use seize_test_kit::values::{Counted, Digit, ended};
 use std::process::Abort;
@@ -16,16 +16,29 @@ use std::test::*;
 use std::thread;
 use std::thread::Threads;
 
+// A guard of the slot retires five values, and leaves.
+fn retire_under<'a>(
+    rt: &impl Wait,
+    registration: &Registration<'_, Counted<'a>>,
+    ends: &'a AtomicU64,
+    pass: &mut Pass,
+)
+    requires of { IsPassOf (registered_in registration.now) pass.old × (0 < its_links (registered_in registration.now)) }
+    ensures { IsPassOf (registered_in registration.now) pass.new }
+{
+    if let Ok(guard) = registration.enter(pass) {
+        retire(rt, &guard, 6, ends, pass);
+        guard.leave(rt, pass);
+    }
+}
+
 // A slot enters, retires five values and leaves. It says its number.
 fn retire_five<'a>(rt: &impl Wait, collector: &Counting<'a>, ends: &'a AtomicU64) -> Option<usize>
-    requires { 0 < its_links collector.now }
+    requires { 0 < its_links (its_words collector.now) }
 {
     let mut pass = collector.pass();
     let registration = collector.register(rt, &mut pass).ok()?;
-    if let Ok(guard) = registration.enter(&mut pass) {
-        retire(rt, &guard, 6, ends, &mut pass);
-        guard.leave(rt, &mut pass);
-    }
+    retire_under(rt, &registration, ends, &mut pass);
     let number = registration.thread_id();
     registration.end(rt, &mut pass);
     Some(number)
@@ -37,12 +50,12 @@ pub(crate) fn retire_elsewhere<'a, R: Threads + Wait + Sync>(
     collector: &Counting<'a>,
     ends: &'a AtomicU64,
 ) -> Option<usize>
-    requires { 0 < its_links collector.now }
+    requires { 0 < its_links (its_words collector.now) }
 {
     let (number, ()) = thread::join(
         rt,
         move || -> Option<usize>
-            requires { 0 < its_links collector.now }
+            requires { 0 < its_links (its_words collector.now) }
         { retire_five(rt, collector, ends) },
         || {},
     );
@@ -55,7 +68,7 @@ fn leave_thrice<'a, R: Threads + Wait + Sync + Abort>(
     collector: &Counting<'a>,
     ends: &'a AtomicU64,
 )
-    requires { 0 < its_links collector.now }
+    requires { 0 < its_links (its_words collector.now) }
 {
     let mut pass = collector.pass();
     let registration = collector.register(rt, &mut pass).expect(rt, "memory");
@@ -106,7 +119,7 @@ fn refresh_thrice<'a, R: Threads + Wait + Sync + Abort>(
     collector: &Counting<'a>,
     ends: &'a AtomicU64,
 )
-    requires { 0 < its_links collector.now }
+    requires { 0 < its_links (its_words collector.now) }
 {
     let mut pass = collector.pass();
     let registration = collector.register(rt, &mut pass).expect(rt, "memory");
@@ -131,6 +144,25 @@ fn what_another_thread_retired_ends_with_the_lone_refresh(rt: HostRuntime) -> Re
     Ok(())
 }
 
+// A guard on its way to another thread: a closure holds only what has a `Drop`.
+struct Handed<'c, 'a>(OwnedGuard<'c, Digit<'a>>);
+
+impl Drop for Handed<'_, '_> {
+    fn drop(self) {
+        let Handed(guard) = self;
+        guard.forget();
+    }
+}
+
+impl Handed<'_, '_> {
+    // The guard leaves.
+    fn leave(self, rt: &impl Wait) {
+        let Handed(guard) = self;
+        let mut pass = guard.collector().pass();
+        guard.leave(rt, &mut pass);
+    }
+}
+
 // Slot 0 retires 1 and 2 while no other slot is active, and 3 while slot 1 is, whose guard leaves first, on another thread.
 fn fill_a_batch<'a, R: Threads + Wait + Sync + Abort>(
     rt: &R,
@@ -144,7 +176,8 @@ fn fill_a_batch<'a, R: Threads + Wait + Sync + Abort>(
     let reader = collector.enter_owned(rt, &mut pass).expect(rt, "memory");
     let guard = writer.enter(&mut pass).expect(rt, "a guard");
     defer(rt, &guard, 3, told, &mut pass);
-    leave_elsewhere(rt, Handed(reader));
+    let reader = Handed(reader);
+    thread::join(rt, move || reader.leave(rt), || {});
     assert_eq!(rt; told.load(Ordering::SeqCst), 0);
     guard.leave(rt, &mut pass);
     assert_eq!(rt; told.load(Ordering::SeqCst), 123);
@@ -195,7 +228,7 @@ fn lose<'a>(
 
 // The guard puts 1 into the link and does so.
 fn lose_once<'a>(rt: &(impl Wait + Abort), collector: &Telling<'a>, told: &'a AtomicU64)
-    requires { 0 < its_links collector.now }
+    requires { 0 < its_links (its_words collector.now) }
 {
     let mut pass = collector.pass();
     let registration = collector.register(rt, &mut pass).expect(rt, "memory");
@@ -236,7 +269,7 @@ fn read_by_another(guard: &LocalGuard<'_, '_, u64>, pass: &mut Pass) -> Option<u
 
 // Puts 1 and then 2 into the link by one pass, and reads it by that, and by another one that meets it.
 fn read_by_two(rt: &(impl Wait + Abort), collector: &Collector<u64>)
-    requires { 0 < its_links collector.now }
+    requires { 0 < its_links (its_words collector.now) }
 {
     let mut pass = collector.pass();
     let registration = collector.register(rt, &mut pass).expect(rt, "memory");
@@ -295,7 +328,7 @@ fn flush_each<'a>(
     for before in 0..MANY {
         let number = before.wrapping_add(1);
         if let Ok(owned) = guard.owned(InTurn { number, count }) {
-            guard.defer_retire(rt, pass, Unlinked::from_owned(owned, guard.collector()));
+            guard.defer_retire(rt, pass, guard.collector().unlinked(owned));
         }
         guard.flush(rt, pass);
     }

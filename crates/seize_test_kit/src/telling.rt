@@ -1,11 +1,11 @@
 //! A collector of values that tell their ends by digits, and guards that retire such values.
 ghost use Rattle.std.specs.Prelude.{◌<◌, IfOk};
-ghost use Rattle.seize.specs.Collectors.{IsPassOf, its_links};
+ghost use Rattle.seize.specs.Collectors.{IsPassOf, its_links, its_words};
 ghost use Rattle.seize.specs.Guards.{guard_collector};
 ghost use Rattle.seize.specs.Registrations.{registered_in};
 
 use crate::values::Digit;
-use seize::{Collector, Guard, IdSource, LocalGuard, Pass, Refusal, Registration, Unlinked};
+use seize::{Collector, Guard, IdSource, LocalGuard, Pass, Refusal, Registration};
 use std::alloc::Global;
 use std::sync::Wait;
 use std::sync::atomic::AtomicU64;
@@ -15,7 +15,7 @@ pub type Telling<'a> = Collector<Digit<'a>>;
 
 /// One with one link, and batches of this many values.
 pub fn telling<'a>(alloc: Global, size: usize) -> Result<Telling<'a>, Refusal>
-    ensures { IfOk result (λ made. 0 < its_links made) }
+    ensures { IfOk result (λ made. 0 < its_links (its_words made)) }
 {
     let made: Telling<'a> = Collector::new(alloc, &mut IdSource::new(), 1, 1)?;
     Ok(made.batch_size(size))
@@ -33,7 +33,7 @@ pub fn defer<'a>(
     ensures { IsPassOf (guard_collector guard.now) pass.new }
 {
     if let Ok(owned) = guard.owned(Digit { digit, told }) {
-        guard.defer_retire(rt, pass, Unlinked::from_owned(owned, guard.collector()));
+        guard.defer_retire(rt, pass, guard.collector().unlinked(owned));
     }
 }
 

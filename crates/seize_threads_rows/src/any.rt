@@ -1,12 +1,12 @@
 //! Code over guards of any kind, run with a guard of each: both do the same.
 ghost use Rattle.std.specs.Prelude.{◌≡◌, ◌<◌, Option, IfOk, IfSome};
 ghost use Rattle.seize.specs.Blocks.{HoldsOnly};
-ghost use Rattle.seize.specs.Collectors.{IsPassOf, its_links, its_store};
+ghost use Rattle.seize.specs.Collectors.{IsPassOf, its_links, its_store, its_words};
 ghost use Rattle.seize.specs.Guards.{core_collector};
 ghost use Rattle.seize.specs.Links.{IsUnlinkedOf};
 ghost use Rattle.seize_test_kit.specs.declared.marked.Marked.{Marked};
 
-use seize::{Collector, Guard, GuardCore, IdSource, Pass, Reclaim, Refusal, Unlinked};
+use seize::{Collector, Guard, GuardCore, Home, IdSource, Pass, Reclaim, Refusal, Unlinked};
 use seize_test_kit::marked::{Marked, ended, ends_of};
 use std::alloc::Global;
 use std::process::Abort;
@@ -30,17 +30,17 @@ struct Came {
 
 // A collector with one link.
 fn collector<'a>(alloc: Global) -> Result<Collector<Marked<'a>>, Refusal>
-    ensures { IfOk result (λ made. 0 < its_links made) }
+    ensures { IfOk result (λ made. 0 < its_links (its_words made)) }
 {
     Collector::new(alloc, &mut IdSource::new(), 1, 1)
 }
 
 // Swaps this value into the link, and retires what came out.
 fn put<'a, G: Guard<Marked<'a>>, W: Wait>(guard: &G, value: Marked<'a>, rt: &W, pass: &mut Pass)
-    requires of { IsPassOf (core_collector (G.its_core guard.now)) pass.old × (0 < its_links (core_collector (G.its_core guard.now))) }
-    requires fits { (x : Marked) → HoldsOnly G.Reclaimer.owners (its_store (core_collector (G.its_core guard.now))) x }
+    requires of { IsPassOf (G.its_collector guard.now) pass.old × (0 < its_links (G.its_collector guard.now)) }
+    requires fits { (x : Marked) → HoldsOnly G.Reclaimer.owners (its_store (G.its_collector guard.now)) x }
     requires rule { (x y : Option Marked) → G.Reclaimer.keeps 0 x y }
-    ensures { IsPassOf (core_collector (G.its_core guard.now)) pass.new }
+    ensures { IsPassOf (G.its_collector guard.now) pass.new }
 {
     if let Ok(block) = guard.owned(value) {
         if let Some(old) = guard.core().swap(0, Some(block), pass) {
@@ -50,8 +50,8 @@ fn put<'a, G: Guard<Marked<'a>>, W: Wait>(guard: &G, value: Marked<'a>, rt: &W, 
 }
 
 // The number that the link holds.
-fn read<'a, R: Reclaim<Marked<'a>>>(
-    core: &GuardCore<'_, Marked<'a>, R>,
+fn read<'a, R: Reclaim<Marked<'a>>, C: Home<Marked<'a>>>(
+    core: &GuardCore<'_, Marked<'a>, R, C>,
     pass: &mut Pass,
 ) -> Option<u64>
     requires of { IsPassOf (core_collector core.now) pass.old × (0 < its_links (core_collector core.now)) }
@@ -61,8 +61,8 @@ fn read<'a, R: Reclaim<Marked<'a>>>(
 }
 
 // An exchange that compares with an empty link is lost. The next compares with what was found, and is won: it gives what came out.
-fn exchange<'a, 'c, R: Reclaim<Marked<'a>>>(
-    core: &GuardCore<'c, Marked<'a>, R>,
+fn exchange<'a, 'c, R: Reclaim<Marked<'a>>, C: Home<Marked<'a>>>(
+    core: &GuardCore<'c, Marked<'a>, R, C>,
     value: Marked<'a>,
     pass: &mut Pass,
 ) -> Option<Unlinked<'c, Marked<'a>>>
@@ -92,10 +92,10 @@ fn exchange_and_retire<'a, G: Guard<Marked<'a>>, W: Wait>(
     rt: &W,
     pass: &mut Pass,
 ) -> Option<u64>
-    requires of { IsPassOf (core_collector (G.its_core guard.now)) pass.old × (0 < its_links (core_collector (G.its_core guard.now))) }
-    requires fits { (x : Marked) → HoldsOnly G.Reclaimer.owners (its_store (core_collector (G.its_core guard.now))) x }
+    requires of { IsPassOf (G.its_collector guard.now) pass.old × (0 < its_links (G.its_collector guard.now)) }
+    requires fits { (x : Marked) → HoldsOnly G.Reclaimer.owners (its_store (G.its_collector guard.now)) x }
     requires rule { (x y : Option Marked) → G.Reclaimer.keeps 0 x y }
-    ensures { IsPassOf (core_collector (G.its_core guard.now)) pass.new }
+    ensures { IsPassOf (G.its_collector guard.now) pass.new }
 {
     let old = exchange(guard.core(), value, pass)?;
     let out = old.value;
@@ -110,11 +110,11 @@ fn make_calls<'a, G: Guard<Marked<'a>>, W: Wait>(
     rt: &W,
     pass: &mut Pass,
 ) -> Came
-    requires of { IsPassOf (core_collector (G.its_core guard.old)) pass.old × (0 < its_links (core_collector (G.its_core guard.old))) }
-    requires fits { (x : Marked) → HoldsOnly G.Reclaimer.owners (its_store (core_collector (G.its_core guard.old))) x }
+    requires of { IsPassOf (G.its_collector guard.old) pass.old × (0 < its_links (G.its_collector guard.old)) }
+    requires fits { (x : Marked) → HoldsOnly G.Reclaimer.owners (its_store (G.its_collector guard.old)) x }
     requires rule { (x y : Option Marked) → G.Reclaimer.keeps 0 x y }
-    ensures pass { IsPassOf (core_collector (G.its_core guard.new)) pass.new }
-    ensures same { core_collector (G.its_core guard.new) ≡ core_collector (G.its_core guard.old) }
+    ensures pass { IsPassOf (G.its_collector guard.new) pass.new }
+    ensures same { G.its_collector guard.new ≡ G.its_collector guard.old }
 {
     put(guard, Marked { value: 0, marks }, rt, pass);
     let read_first = read(guard.core(), pass);
@@ -139,7 +139,7 @@ fn by_local<'a>(
     collector: &Collector<Marked<'a>>,
     marks: &'a [AtomicU64],
 ) -> Came
-    requires { 0 < its_links collector.now }
+    requires { 0 < its_links (its_words collector.now) }
 {
     let mut pass = collector.pass();
     let registration = collector.register(rt, &mut pass).expect(rt, "memory");
@@ -156,7 +156,7 @@ fn by_owned<'a>(
     collector: &Collector<Marked<'a>>,
     marks: &'a [AtomicU64],
 ) -> Came
-    requires { 0 < its_links collector.now }
+    requires { 0 < its_links (its_words collector.now) }
 {
     let mut pass = collector.pass();
     let mut guard = collector.enter_owned(rt, &mut pass).expect(rt, "memory");

@@ -1,6 +1,6 @@
 //! Threads that add to one number at once: each exchanges the block that it read for one with the next number, until it wins.
 ghost use Rattle.std.specs.Prelude.{◌≡◌, ◌<◌, IfOk, IfSome};
-ghost use Rattle.seize.specs.Collectors.{IsBlockOf, IsPassOf, its_links};
+ghost use Rattle.seize.specs.Collectors.{IsBlockOf, IsPassOf, its_links, its_words};
 ghost use Rattle.seize.specs.Guards.{guard_collector};
 ghost use Rattle.seize.specs.Registrations.{registered_in};
 
@@ -115,7 +115,7 @@ fn work<'a>(
     first: u64,
     marks: &'a [AtomicU64],
 ) -> Result<Tried, Refusal>
-    requires { 0 < its_links collector.now }
+    requires { 0 < its_links (its_words collector.now) }
 {
     let mut pass = collector.pass();
     let registration = collector.register(rt, &mut pass)?;
@@ -131,16 +131,16 @@ fn two<'a, R: Threads + Wait + Sync>(
     first: u64,
     marks: &'a [AtomicU64],
 ) -> Result<Tried, Refusal>
-    requires { 0 < its_links collector.now }
+    requires { 0 < its_links (its_words collector.now) }
 {
     let second = first.wrapping_add(TURNS);
     let (one, other) = thread::join(
         rt,
         move || -> Result<Tried, Refusal>
-            requires { 0 < its_links collector.now }
+            requires { 0 < its_links (its_words collector.now) }
         { work(rt, collector, first, marks) },
         move || -> Result<Tried, Refusal>
-            requires { 0 < its_links collector.now }
+            requires { 0 < its_links (its_words collector.now) }
         { work(rt, collector, second, marks) },
     );
     Ok(one?.and(other?))
@@ -152,15 +152,15 @@ fn four<'a, R: Threads + Wait + Sync>(
     collector: &Collector<Sum<'a>>,
     marks: &'a [AtomicU64],
 ) -> Result<Tried, Refusal>
-    requires { 0 < its_links collector.now }
+    requires { 0 < its_links (its_words collector.now) }
 {
     let (one, other) = thread::join(
         rt,
         move || -> Result<Tried, Refusal>
-            requires { 0 < its_links collector.now }
+            requires { 0 < its_links (its_words collector.now) }
         { two(rt, collector, 1, marks) },
         move || -> Result<Tried, Refusal>
-            requires { 0 < its_links collector.now }
+            requires { 0 < its_links (its_words collector.now) }
         { two(rt, collector, 1 + 2 * TURNS, marks) },
     );
     Ok(one?.and(other?))

@@ -1,6 +1,6 @@
 //! Threads that make an owned guard of their own for every turn.
 ghost use Rattle.std.specs.Prelude.{◌≡◌, ◌<◌, IfOk};
-ghost use Rattle.seize.specs.Collectors.{IsPassOf, its_links};
+ghost use Rattle.seize.specs.Collectors.{IsPassOf, its_links, its_words};
 ghost use Rattle.seize.specs.Guards.{owned_collector};
 
 use seize::{Collector, Guard, IdSource, OwnedGuard, Pass, Refusal};
@@ -40,7 +40,7 @@ impl Seen {
 
 // A collector with one link.
 pub(crate) fn collector<'a>(alloc: Global) -> Result<Collector<Marked<'a>>, Refusal>
-    ensures { IfOk result (λ made. 0 < its_links made) }
+    ensures { IfOk result (λ made. 0 < its_links (its_words made)) }
 {
     Collector::new(alloc, &mut IdSource::new(), 1, 1)
 }
@@ -75,8 +75,8 @@ fn turn<'a>(
     value: Marked<'a>,
     pass: &mut Pass,
 ) -> Result<Seen, Refusal>
-    requires of { IsPassOf collector.now pass.old × (0 < its_links collector.now) }
-    ensures { IsPassOf collector.now pass.new }
+    requires of { IsPassOf (its_words collector.now) pass.old × (0 < its_links (its_words collector.now)) }
+    ensures { IsPassOf (its_words collector.now) pass.new }
 {
     let marks = value.marks;
     let guard = collector.enter_owned(rt, pass)?;
@@ -102,7 +102,7 @@ fn work<'a>(
     first: u64,
     marks: &'a [AtomicU64],
 ) -> Result<Seen, Refusal>
-    requires { 0 < its_links collector.now }
+    requires { 0 < its_links (its_words collector.now) }
 {
     let mut pass = collector.pass();
     let mut all = Seen {
@@ -124,16 +124,16 @@ fn two<'a, R: Threads + Wait + Sync>(
     first: u64,
     marks: &'a [AtomicU64],
 ) -> Result<Seen, Refusal>
-    requires { 0 < its_links collector.now }
+    requires { 0 < its_links (its_words collector.now) }
 {
     let second = first.wrapping_add(TURNS);
     let (one, other) = thread::join(
         rt,
         move || -> Result<Seen, Refusal>
-            requires { 0 < its_links collector.now }
+            requires { 0 < its_links (its_words collector.now) }
         { work(rt, collector, first, marks) },
         move || -> Result<Seen, Refusal>
-            requires { 0 < its_links collector.now }
+            requires { 0 < its_links (its_words collector.now) }
         { work(rt, collector, second, marks) },
     );
     Ok(one?.and(other?))
@@ -145,15 +145,15 @@ fn four<'a, R: Threads + Wait + Sync>(
     collector: &Collector<Marked<'a>>,
     marks: &'a [AtomicU64],
 ) -> Result<Seen, Refusal>
-    requires { 0 < its_links collector.now }
+    requires { 0 < its_links (its_words collector.now) }
 {
     let (one, other) = thread::join(
         rt,
         move || -> Result<Seen, Refusal>
-            requires { 0 < its_links collector.now }
+            requires { 0 < its_links (its_words collector.now) }
         { two(rt, collector, 0, marks) },
         move || -> Result<Seen, Refusal>
-            requires { 0 < its_links collector.now }
+            requires { 0 < its_links (its_words collector.now) }
         { two(rt, collector, 2 * TURNS, marks) },
     );
     Ok(one?.and(other?))

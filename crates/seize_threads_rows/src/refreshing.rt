@@ -1,6 +1,6 @@
 //! Readers that hold one guard each and refresh it, while another thread swaps values through several links and retires them.
 ghost use Rattle.std.specs.Prelude.{◌≡◌, ◌<◌, IfOk};
-ghost use Rattle.seize.specs.Collectors.{IsPassOf, its_links};
+ghost use Rattle.seize.specs.Collectors.{IsPassOf, its_links, its_words};
 ghost use Rattle.seize.specs.Guards.{guard_collector};
 ghost use Rattle.seize.specs.Registrations.{registered_in};
 
@@ -49,7 +49,7 @@ struct Saw {
 
 // A collector with three links, and batches of four values.
 fn collector<'a>(alloc: Global) -> Result<Collector<Marked<'a>>, Refusal>
-    ensures { IfOk result (λ made. its_links made ≡ 3) }
+    ensures { IfOk result (λ made. its_links (its_words made) ≡ 3) }
 {
     let made: Collector<Marked<'a>> = Collector::new(alloc, &mut IdSource::new(), 1, 3)?;
     Ok(made.batch_size(4))
@@ -144,7 +144,7 @@ fn read<'a>(
     signs: &Signs,
     marks: &'a [AtomicU64],
 ) -> Result<Saw, Refusal>
-    requires { its_links collector.now ≡ 3 }
+    requires { its_links (its_words collector.now) ≡ 3 }
 {
     let mut pass = collector.pass();
     let registration = collector.register(rt, &mut pass)?;
@@ -181,7 +181,7 @@ fn write<'a>(
     signs: &Signs,
     marks: &'a [AtomicU64],
 ) -> Result<u64, Refusal>
-    requires { its_links collector.now ≡ 3 }
+    requires { its_links (its_words collector.now) ≡ 3 }
 {
     let mut pass = collector.pass();
     let registration = collector.register(rt, &mut pass)?;
@@ -199,15 +199,15 @@ fn two<'a, R: Threads + Wait + Sync>(
     signs: &Signs,
     marks: &'a [AtomicU64],
 ) -> (Result<Saw, Refusal>, Result<Saw, Refusal>)
-    requires { its_links collector.now ≡ 3 }
+    requires { its_links (its_words collector.now) ≡ 3 }
 {
     thread::join(
         rt,
         move || -> Result<Saw, Refusal>
-            requires { its_links collector.now ≡ 3 }
+            requires { its_links (its_words collector.now) ≡ 3 }
         { read(rt, collector, signs, marks) },
         move || -> Result<Saw, Refusal>
-            requires { its_links collector.now ≡ 3 }
+            requires { its_links (its_words collector.now) ≡ 3 }
         { read(rt, collector, signs, marks) },
     )
 }
@@ -219,15 +219,15 @@ fn reader_and_writer<'a, R: Threads + Wait + Sync>(
     signs: &Signs,
     marks: &'a [AtomicU64],
 ) -> (Result<Saw, Refusal>, Result<u64, Refusal>)
-    requires { its_links collector.now ≡ 3 }
+    requires { its_links (its_words collector.now) ≡ 3 }
 {
     thread::join(
         rt,
         move || -> Result<Saw, Refusal>
-            requires { its_links collector.now ≡ 3 }
+            requires { its_links (its_words collector.now) ≡ 3 }
         { read(rt, collector, signs, marks) },
         move || -> Result<u64, Refusal>
-            requires { its_links collector.now ≡ 3 }
+            requires { its_links (its_words collector.now) ≡ 3 }
         { write(rt, collector, signs, marks) },
     )
 }
@@ -239,15 +239,15 @@ fn four<'a, R: Threads + Wait + Sync>(
     signs: &Signs,
     marks: &'a [AtomicU64],
 ) -> Result<(Saw, Saw, Saw, u64), Refusal>
-    requires { its_links collector.now ≡ 3 }
+    requires { its_links (its_words collector.now) ≡ 3 }
 {
     let ((a, b), (c, retired)) = thread::join(
         rt,
         move || -> (Result<Saw, Refusal>, Result<Saw, Refusal>)
-            requires { its_links collector.now ≡ 3 }
+            requires { its_links (its_words collector.now) ≡ 3 }
         { two(rt, collector, signs, marks) },
         move || -> (Result<Saw, Refusal>, Result<u64, Refusal>)
-            requires { its_links collector.now ≡ 3 }
+            requires { its_links (its_words collector.now) ≡ 3 }
         { reader_and_writer(rt, collector, signs, marks) },
     );
     Ok((a?, b?, c?, retired?))

@@ -1,6 +1,6 @@
 //! Threads that share a collector: what each finds has not ended while its guard stands, and each value ends once.
 ghost use Rattle.std.specs.Prelude.{◌≡◌, ◌<◌, IfOk};
-ghost use Rattle.seize.specs.Collectors.{its_links};
+ghost use Rattle.seize.specs.Collectors.{its_links, its_words};
 
 use crate::turns::{Seen, work};
 use seize::{Collector, IdSource, Refusal};
@@ -17,7 +17,7 @@ const TURNS: u64 = 20_000;
 
 // A collector with one link.
 fn collector<'a>(alloc: Global) -> Result<Collector<Marked<'a>>, Refusal>
-    ensures { IfOk result (λ made. 0 < its_links made) }
+    ensures { IfOk result (λ made. 0 < its_links (its_words made)) }
 {
     Collector::new(alloc, &mut IdSource::new(), 1, 1)
 }
@@ -29,16 +29,16 @@ fn two<'a, R: Threads + Wait + Sync>(
     first: u64,
     marks: &'a [AtomicU64],
 ) -> (Result<Seen, Refusal>, Result<Seen, Refusal>)
-    requires { 0 < its_links collector.now }
+    requires { 0 < its_links (its_words collector.now) }
 {
     let second = first.wrapping_add(TURNS);
     thread::join(
         rt,
         move || -> Result<Seen, Refusal>
-            requires { 0 < its_links collector.now }
+            requires { 0 < its_links (its_words collector.now) }
         { work(collector, first, TURNS, marks, rt) },
         move || -> Result<Seen, Refusal>
-            requires { 0 < its_links collector.now }
+            requires { 0 < its_links (its_words collector.now) }
         { work(collector, second, TURNS, marks, rt) },
     )
 }
@@ -49,15 +49,15 @@ fn four<'a, R: Threads + Wait + Sync>(
     collector: &Collector<Marked<'a>>,
     marks: &'a [AtomicU64],
 ) -> Result<(Seen, Seen), Refusal>
-    requires { 0 < its_links collector.now }
+    requires { 0 < its_links (its_words collector.now) }
 {
     let ((a, b), (c, d)) = thread::join(
         rt,
         move || -> (Result<Seen, Refusal>, Result<Seen, Refusal>)
-            requires { 0 < its_links collector.now }
+            requires { 0 < its_links (its_words collector.now) }
         { two(rt, collector, 0, marks) },
         move || -> (Result<Seen, Refusal>, Result<Seen, Refusal>)
-            requires { 0 < its_links collector.now }
+            requires { 0 < its_links (its_words collector.now) }
         { two(rt, collector, 2 * TURNS, marks) },
     );
     Ok((a?.and(b?), c?.and(d?)))

@@ -1,6 +1,6 @@
 //! A reader that stays under its guard while other threads retire very many values.
 ghost use Rattle.std.specs.Prelude.{◌≡◌, ◌<◌, IfOk};
-ghost use Rattle.seize.specs.Collectors.{IsPassOf, its_links};
+ghost use Rattle.seize.specs.Collectors.{IsPassOf, its_links, its_words};
 ghost use Rattle.seize.specs.Guards.{guard_collector};
 ghost use Rattle.seize.specs.Registrations.{registered_in};
 
@@ -19,7 +19,7 @@ const TURNS: u64 = 50_000;
 
 // A collector with one link.
 fn collector<'a>(alloc: Global) -> Result<Collector<Marked<'a>>, Refusal>
-    ensures { IfOk result (λ made. 0 < its_links made) }
+    ensures { IfOk result (λ made. 0 < its_links (its_words made)) }
 {
     Collector::new(alloc, &mut IdSource::new(), 1, 1)
 }
@@ -30,15 +30,15 @@ fn others<'a, R: Threads + Wait + Sync>(
     collector: &Collector<Marked<'a>>,
     marks: &'a [AtomicU64],
 ) -> Result<Seen, Refusal>
-    requires { 0 < its_links collector.now }
+    requires { 0 < its_links (its_words collector.now) }
 {
     let (one, other) = thread::join(
         rt,
         move || -> Result<Seen, Refusal>
-            requires { 0 < its_links collector.now }
+            requires { 0 < its_links (its_words collector.now) }
         { work(collector, 1, TURNS, marks, rt) },
         move || -> Result<Seen, Refusal>
-            requires { 0 < its_links collector.now }
+            requires { 0 < its_links (its_words collector.now) }
         { work(collector, 1 + TURNS, TURNS, marks, rt) },
     );
     Ok(one?.and(other?))
@@ -97,7 +97,7 @@ fn read<'a, R: Threads + Wait + Sync>(
     collector: &Collector<Marked<'a>>,
     marks: &'a [AtomicU64],
 ) -> Result<Saw, Refusal>
-    requires { 0 < its_links collector.now }
+    requires { 0 < its_links (its_words collector.now) }
 {
     let mut pass = collector.pass();
     let registration = collector.register(rt, &mut pass)?;

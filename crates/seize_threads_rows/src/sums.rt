@@ -1,6 +1,6 @@
 //! Numbers to which threads add by exchanges, each in a block with a mark of its own.
 ghost use Rattle.std.specs.Prelude.{◌≡◌, ◌<◌, IfOk};
-ghost use Rattle.seize.specs.Collectors.{its_links};
+ghost use Rattle.seize.specs.Collectors.{its_links, its_words};
 
 use seize::{Collector, Guard, IdSource, Refusal};
 use seize_test_kit::marked::Marked;
@@ -77,7 +77,7 @@ impl Tried {
 
 /// A collector with one link, and batches of one value.
 pub(crate) fn collector<'a>(alloc: Global) -> Result<Collector<Sum<'a>>, Refusal>
-    ensures { IfOk result (λ made. 0 < its_links made) }
+    ensures { IfOk result (λ made. 0 < its_links (its_words made)) }
 {
     let made: Collector<Sum<'a>> = Collector::new(alloc, &mut IdSource::new(), 1, 1)?;
     Ok(made.batch_size(1))
@@ -89,7 +89,7 @@ pub(crate) fn put<'a>(
     collector: &Collector<Sum<'a>>,
     marks: &'a [AtomicU64],
 ) -> Result<(), Refusal>
-    requires { 0 < its_links collector.now }
+    requires { 0 < its_links (its_words collector.now) }
 {
     let mut pass = collector.pass();
     let guard = collector.enter_owned(rt, &mut pass)?;
@@ -107,7 +107,7 @@ pub(crate) fn read<'a>(
     rt: &impl Wait,
     collector: &Collector<Sum<'a>>,
 ) -> Result<Option<u64>, Refusal>
-    requires { 0 < its_links collector.now }
+    requires { 0 < its_links (its_words collector.now) }
 {
     let mut pass = collector.pass();
     let guard = collector.enter_owned(rt, &mut pass)?;

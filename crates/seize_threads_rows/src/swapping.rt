@@ -1,6 +1,6 @@
 //! Readers on four threads, while a fifth one swaps a thousand values through the link that they read.
 ghost use Rattle.std.specs.Prelude.{◌<◌};
-ghost use Rattle.seize.specs.Collectors.{IsPassOf, its_links};
+ghost use Rattle.seize.specs.Collectors.{IsPassOf, its_links, its_words};
 
 use crate::own_guards::{collector, replace};
 use seize::{Collector, Pass, Refusal};
@@ -21,8 +21,8 @@ fn look<'a>(
     marks: &'a [AtomicU64],
     pass: &mut Pass,
 ) -> Result<u64, Refusal>
-    requires of { IsPassOf collector.now pass.old × (0 < its_links collector.now) }
-    ensures { IsPassOf collector.now pass.new }
+    requires of { IsPassOf (its_words collector.now) pass.old × (0 < its_links (its_words collector.now)) }
+    ensures { IsPassOf (its_words collector.now) pass.new }
 {
     let guard = collector.enter_owned(rt, pass)?;
     let early = match &guard.protect(0, pass) {
@@ -39,7 +39,7 @@ fn look_often<'a>(
     collector: &Collector<Marked<'a>>,
     marks: &'a [AtomicU64],
 ) -> Result<u64, Refusal>
-    requires { 0 < its_links collector.now }
+    requires { 0 < its_links (its_words collector.now) }
 {
     let mut pass = collector.pass();
     let mut early: u64 = 0;
@@ -55,15 +55,15 @@ fn two<'a, R: Threads + Wait + Sync>(
     collector: &Collector<Marked<'a>>,
     marks: &'a [AtomicU64],
 ) -> Result<u64, Refusal>
-    requires { 0 < its_links collector.now }
+    requires { 0 < its_links (its_words collector.now) }
 {
     let (one, other) = thread::join(
         rt,
         move || -> Result<u64, Refusal>
-            requires { 0 < its_links collector.now }
+            requires { 0 < its_links (its_words collector.now) }
         { look_often(rt, collector, marks) },
         move || -> Result<u64, Refusal>
-            requires { 0 < its_links collector.now }
+            requires { 0 < its_links (its_words collector.now) }
         { look_often(rt, collector, marks) },
     );
     Ok(one?.wrapping_add(other?))
@@ -75,15 +75,15 @@ fn four<'a, R: Threads + Wait + Sync>(
     collector: &Collector<Marked<'a>>,
     marks: &'a [AtomicU64],
 ) -> Result<u64, Refusal>
-    requires { 0 < its_links collector.now }
+    requires { 0 < its_links (its_words collector.now) }
 {
     let (one, other) = thread::join(
         rt,
         move || -> Result<u64, Refusal>
-            requires { 0 < its_links collector.now }
+            requires { 0 < its_links (its_words collector.now) }
         { two(rt, collector, marks) },
         move || -> Result<u64, Refusal>
-            requires { 0 < its_links collector.now }
+            requires { 0 < its_links (its_words collector.now) }
         { two(rt, collector, marks) },
     );
     Ok(one?.wrapping_add(other?))
@@ -96,8 +96,8 @@ fn put<'a>(
     value: Marked<'a>,
     pass: &mut Pass,
 ) -> Result<u64, Refusal>
-    requires of { IsPassOf collector.now pass.old × (0 < its_links collector.now) }
-    ensures { IsPassOf collector.now pass.new }
+    requires of { IsPassOf (its_words collector.now) pass.old × (0 < its_links (its_words collector.now)) }
+    ensures { IsPassOf (its_words collector.now) pass.new }
 {
     let guard = collector.enter_owned(rt, pass)?;
     let retired = replace(rt, &guard, value, pass);
@@ -111,7 +111,7 @@ fn put_often<'a>(
     collector: &Collector<Marked<'a>>,
     marks: &'a [AtomicU64],
 ) -> Result<u64, Refusal>
-    requires { 0 < its_links collector.now }
+    requires { 0 < its_links (its_words collector.now) }
 {
     let mut pass = collector.pass();
     let mut retired: u64 = 0;
@@ -127,15 +127,15 @@ fn five<'a, R: Threads + Wait + Sync>(
     collector: &Collector<Marked<'a>>,
     marks: &'a [AtomicU64],
 ) -> Result<(u64, u64), Refusal>
-    requires { 0 < its_links collector.now }
+    requires { 0 < its_links (its_words collector.now) }
 {
     let (early, retired) = thread::join(
         rt,
         move || -> Result<u64, Refusal>
-            requires { 0 < its_links collector.now }
+            requires { 0 < its_links (its_words collector.now) }
         { four(rt, collector, marks) },
         move || -> Result<u64, Refusal>
-            requires { 0 < its_links collector.now }
+            requires { 0 < its_links (its_words collector.now) }
         { put_often(rt, collector, marks) },
     );
     Ok((early?, retired?))

@@ -5,7 +5,7 @@ ghost use Rattle.seize.specs.Collectors.{IsPassOf};
 ghost use Rattle.seize.specs.Registrations.{registered_in};
 
 use crate::signs::{set, wait_for};
-use seize::{Collector, Further, IdSource, Pass, Puts, Reclaim, Refusal, Registration, Unlinked};
+use seize::{Collector, Further, IdSource, Pass, Puts, Reclaim, Refusal, Registration};
 use seize_test_kit::values::ended;
 use std::alloc::Global;
 use std::process::Abort;
@@ -77,7 +77,7 @@ fn retire<'a>(rt: &impl Wait, registration: &Registration<'_, u64, Waiting<'a>>,
 {
     let collector = registration.collector();
     if let Ok(block) = collector.owned(7) {
-        registration.retire(rt, pass, Unlinked::from_owned(block, collector));
+        registration.retire(rt, pass, collector.unlinked(block));
     }
 }
 

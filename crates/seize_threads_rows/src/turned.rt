@@ -1,6 +1,6 @@
 //! Two threads that take turns: what one of them has found does not end while its guard stands, though the other has retired it.
 ghost use Rattle.std.specs.Prelude.{◌≡◌, ◌<◌, IfOk};
-ghost use Rattle.seize.specs.Collectors.{IsPassOf, its_links};
+ghost use Rattle.seize.specs.Collectors.{IsPassOf, its_links, its_words};
 ghost use Rattle.seize.specs.Guards.{guard_collector};
 ghost use Rattle.seize.specs.Registrations.{registered_in};
 
@@ -52,7 +52,7 @@ struct Wrote {
 
 // A collector with one link, and batches of four values.
 fn collector<'a>(alloc: Global) -> Result<Collector<Marked<'a>>, Refusal>
-    ensures { IfOk result (λ made. 0 < its_links made) }
+    ensures { IfOk result (λ made. 0 < its_links (its_words made)) }
 {
     let made: Collector<Marked<'a>> = Collector::new(alloc, &mut IdSource::new(), 1, 1)?;
     Ok(made.batch_size(4))
@@ -107,7 +107,7 @@ fn read<'a>(
     sign: &AtomicU64,
     marks: &'a [AtomicU64],
 ) -> Result<Saw, Refusal>
-    requires { 0 < its_links collector.now }
+    requires { 0 < its_links (its_words collector.now) }
 {
     let mut pass = collector.pass();
     let registration = collector.register(rt, &mut pass)?;
@@ -146,7 +146,7 @@ fn write<'a>(
     sign: &AtomicU64,
     marks: &'a [AtomicU64],
 ) -> Result<Wrote, Refusal>
-    requires { 0 < its_links collector.now }
+    requires { 0 < its_links (its_words collector.now) }
 {
     let mut pass = collector.pass();
     let registration = collector.register(rt, &mut pass)?;
@@ -169,15 +169,15 @@ fn two<'a, R: Threads + Wait + Sync>(
     sign: &AtomicU64,
     marks: &'a [AtomicU64],
 ) -> Result<(Saw, Wrote), Refusal>
-    requires { 0 < its_links collector.now }
+    requires { 0 < its_links (its_words collector.now) }
 {
     let (saw, wrote) = thread::join(
         rt,
         move || -> Result<Saw, Refusal>
-            requires { 0 < its_links collector.now }
+            requires { 0 < its_links (its_words collector.now) }
         { read(rt, collector, sign, marks) },
         move || -> Result<Wrote, Refusal>
-            requires { 0 < its_links collector.now }
+            requires { 0 < its_links (its_words collector.now) }
         { write(rt, collector, sign, marks) },
     );
     Ok((saw?, wrote?))

@@ -1,6 +1,6 @@
 //! Turns of a thread at a collector: it enters, reads a link, swaps a new block in, retires what came out, and leaves.
 ghost use Rattle.std.specs.Prelude.{◌≡◌, ◌<◌, IfOk};
-ghost use Rattle.seize.specs.Collectors.{IsPassOf, its_links};
+ghost use Rattle.seize.specs.Collectors.{IsPassOf, its_links, its_words};
 ghost use Rattle.seize.specs.Guards.{guard_collector};
 ghost use Rattle.seize.specs.Registrations.{registered_in};
 
@@ -92,7 +92,7 @@ pub fn work<'a, W: Wait>(
     marks: &'a [AtomicU64],
     rt: &W,
 ) -> Result<Seen, Refusal>
-    requires { 0 < its_links collector.now }
+    requires { 0 < its_links (its_words collector.now) }
 {
     let mut pass = collector.pass();
     let registration = collector.register(rt, &mut pass)?;

@@ -1,6 +1,6 @@
 //! Threads that all read one block, and exchange it at once: one of them wins.
 ghost use Rattle.std.specs.Prelude.{◌≡◌, ◌<◌};
-ghost use Rattle.seize.specs.Collectors.{IsPassOf, its_links};
+ghost use Rattle.seize.specs.Collectors.{IsPassOf, its_links, its_words};
 ghost use Rattle.seize.specs.Guards.{guard_collector};
 ghost use Rattle.seize.specs.Registrations.{registered_in};
 
@@ -111,7 +111,7 @@ fn work<'a>(
     come: &AtomicU64,
     marks: &'a [AtomicU64],
 ) -> Result<Tried, Refusal>
-    requires { 0 < its_links collector.now }
+    requires { 0 < its_links (its_words collector.now) }
 {
     let mut pass = collector.pass();
     let registration = collector.register(rt, &mut pass)?;
@@ -128,16 +128,16 @@ fn two<'a, R: Threads + Wait + Sync>(
     come: &AtomicU64,
     marks: &'a [AtomicU64],
 ) -> Result<Tried, Refusal>
-    requires { 0 < its_links collector.now }
+    requires { 0 < its_links (its_words collector.now) }
 {
     let second = first.wrapping_add(ROUNDS);
     let (one, other) = thread::join(
         rt,
         move || -> Result<Tried, Refusal>
-            requires { 0 < its_links collector.now }
+            requires { 0 < its_links (its_words collector.now) }
         { work(rt, collector, first, come, marks) },
         move || -> Result<Tried, Refusal>
-            requires { 0 < its_links collector.now }
+            requires { 0 < its_links (its_words collector.now) }
         { work(rt, collector, second, come, marks) },
     );
     Ok(one?.and(other?))
@@ -150,15 +150,15 @@ fn four<'a, R: Threads + Wait + Sync>(
     come: &AtomicU64,
     marks: &'a [AtomicU64],
 ) -> Result<Tried, Refusal>
-    requires { 0 < its_links collector.now }
+    requires { 0 < its_links (its_words collector.now) }
 {
     let (one, other) = thread::join(
         rt,
         move || -> Result<Tried, Refusal>
-            requires { 0 < its_links collector.now }
+            requires { 0 < its_links (its_words collector.now) }
         { two(rt, collector, 1, come, marks) },
         move || -> Result<Tried, Refusal>
-            requires { 0 < its_links collector.now }
+            requires { 0 < its_links (its_words collector.now) }
         { two(rt, collector, 1 + 2 * ROUNDS, come, marks) },
     );
     Ok(one?.and(other?))

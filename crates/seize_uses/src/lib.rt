@@ -1,7 +1,9 @@
 //! Callers of `seize`, as README.md and CALLING.md show them. Each says by its contract what a caller may count on.
 #![tactic(auto)]
 
+pub mod auditing;
 pub mod cache;
+pub mod counters;
 pub mod links;
 pub mod machine;
 pub mod moved;

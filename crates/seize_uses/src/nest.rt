@@ -2,7 +2,7 @@
 //! deep, without recursion.
 ghost use Rattle.std.specs.Prelude.{All, IfOk};
 ghost use Rattle.seize.specs.Blocks.{Belongs};
-ghost use Rattle.seize.specs.Collectors.{BelongsTo, its_store};
+ghost use Rattle.seize.specs.Collectors.{BelongsTo, its_store, its_words};
 ghost use Rattle.seize_uses.specs.Nests.{nested_in, nest_owners, nest_weight};
 ghost use Rattle.seize_uses.specs.Weights.{nested_lighter};
 
@@ -56,8 +56,8 @@ pub fn around<'a>(
     number: u64,
     inside: Vec<Owned<Nest>>,
 ) -> Result<Owned<Nest>, Refusal>
-    requires { All (Belongs nest_owners (its_store collector.now)) inside.items }
-    ensures { IfOk result (BelongsTo nest_owners collector.now) }
+    requires { All (Belongs nest_owners (its_store (its_words collector.now))) inside.items }
+    ensures { IfOk result (BelongsTo nest_owners (its_words collector.now)) }
 {
     match collector.owned(Nest { number, inside }) {
         Ok(block) => Ok(block),

@@ -1,7 +1,7 @@
 //! A reclaimer of one's own, which counts what ends, and a caller who says of which kind a value is.
 ghost use Rattle.std.proofs.Common.{lit<};
 ghost use Rattle.std.specs.Prelude.{◌≡◌, ◌<◌, ℕ, IfOk, true};
-ghost use Rattle.seize.specs.Collectors.{IsBlockOf, IsPassOf, its_links};
+ghost use Rattle.seize.specs.Collectors.{IsBlockOf, IsPassOf, its_links, its_words};
 ghost use Rattle.seize.specs.Guards.{guard_collector};
 ghost use Rattle.seize.specs.Laws.{moments_seen};
 ghost use Rattle.seize.specs.Machine.History.{Retired};
@@ -62,7 +62,7 @@ pub fn collector<'a>(
     processors: usize,
     counts: &'a Counts,
 ) -> Result<Collector<u64, Counting<'a>>, Refusal>
-    ensures { IfOk result (λ made. its_links made ≡ 1) }
+    ensures { IfOk result (λ made. its_links (its_words made) ≡ 1) }
 {
     Collector::with_reclaimer(alloc, ids, processors, 1, Counting { counts })
 }

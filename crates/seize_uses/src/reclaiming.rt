@@ -6,7 +6,7 @@ ghost use Rattle.seize.specs.Collectors.{its_book};
 ghost use Rattle.seize.specs.Machine.History.{Reclaimed, Retired};
 ghost use Rattle.seize.specs.Reclaims.{moments_kept, moments_of};
 
-use seize::{Collector, Refusal, Seen, Unlinked};
+use seize::{Collector, Refusal, Seen};
 use std::sync::Wait;
 
 /// Retires a new block with this number by a registration of its own, which ends then. The note that comes back knows of it: a value of
@@ -21,7 +21,7 @@ pub fn retire<W: Wait>(collector: &Collector<u64>, number: u64, rt: &W) -> Resul
     };
     let mut pass = collector.pass();
     let registration = collector.register(rt, &mut pass)?;
-    registration.retire(rt, &mut pass, Unlinked::from_owned(block, collector));
+    registration.retire(rt, &mut pass, collector.unlinked(block));
     registration.end(rt, &mut pass);
     let mut known = collector.seen();
     known.learn(&mut pass);

@@ -5,7 +5,7 @@ ghost use Rattle.std.proofs.Common.{lit<};
 ghost use Rattle.std.specs.Prelude.{◌≡◌, ◌<◌, ◌≤◌, ◌↔◌, ℕ, Option, Some, [], ◌∷◌, IfOk, IfSome, IsTrue, true};
 ghost use Rattle.seize.specs.Collectors.{IsPassOf, its_links};
 ghost use Rattle.seize.specs.Exchanges.{current_value};
-ghost use Rattle.seize.specs.Guards.{core_collector, core_slot, guard_collector};
+ghost use Rattle.seize.specs.Guards.{core_collector, core_home, core_slot, guard_collector, guard_home};
 ghost use Rattle.seize.specs.Machine.Event.{ReadLink};
 ghost use Rattle.seize.specs.Makes.{Makes, MakesOne};
 ghost use Rattle.seize.specs.Rules.{Says};
@@ -50,8 +50,8 @@ pub fn newest(
     ensures pass { IsPassOf (core_collector core.now) pass.new }
     ensures read { (held : Option ℕ) × Says the_row.coded.code held result
         × MakesOne pass.old pass.new (ReadLink (core_slot core.now) link) (Link held) }
-    ensures no_less { (version : Version) → HasReached (core_collector core.now) link version pass.old → GrowsTo (Some version) result }
-    ensures reached { IfSome result (λ version. HasReached (core_collector core.now) link version pass.new) }
+    ensures no_less { (version : Version) → HasReached (core_home core.now) link version pass.old → GrowsTo (Some version) result }
+    ensures reached { IfSome result (λ version. HasReached (core_home core.now) link version pass.new) }
 {
     let collector = core.collector();
     collector.laws(pass);
@@ -68,7 +68,7 @@ pub fn read_twice(
     pass: &mut Pass,
 ) -> (Option<Version>, Option<Version>)
     requires of { IsPassOf (core_collector first.now) pass.old × (link < its_links (core_collector first.now)) }
-    requires same { core_collector second.now ≡ core_collector first.now }
+    requires same { (core_home second.now ≡ core_home first.now) × (core_collector second.now ≡ core_collector first.now) }
     ensures pass { IsPassOf (core_collector first.now) pass.new }
     ensures read { (one : Option ℕ) × (other : Option ℕ) × Says the_row.coded.code one result.0
         × Says the_row.coded.code other result.1 × Makes pass.old pass.new
@@ -96,7 +96,7 @@ pub fn advance<W: Wait>(
 ) -> Result<bool, Refusal>
     requires of { IsPassOf (guard_collector guard.now) pass.old × (link < its_links (guard_collector guard.now)) }
     ensures pass { IsPassOf (guard_collector guard.now) pass.new }
-    ensures reached { IfOk result (λ done. done ≡ true → HasReached (guard_collector guard.now) link version pass.new) }
+    ensures reached { IfOk result (λ done. done ≡ true → HasReached (guard_home guard.now) link version pass.new) }
 {
     let collector = guard.collector();
     collector.laws(pass);

@@ -4,7 +4,7 @@ ghost use Rattle.std.specs.Coded.{coded_option};
 ghost use Rattle.std.specs.Prelude.{◌≡◌, true, None};
 ghost use Rattle.seize.specs.Waiting.Calls.{unused};
 ghost use Rattle.seize.specs.Waiting.State.{has_guard, model_slot};
-ghost use Rattle.seize.specs.Links.{IsTakenOf};
+ghost use Rattle.seize.specs.Takens.{IsTakenOf};
 
 use seize::waiting::batches;
 use seize::{Alone, Taken, Watch};

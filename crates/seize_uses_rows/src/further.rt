@@ -1,10 +1,10 @@
 //! Blocks inside blocks: how far one call goes, in which order values end, and that each ends once.
 ghost use Rattle.std.specs.Prelude.{◌≡◌, IfOk};
-ghost use Rattle.seize.specs.Collectors.{BelongsTo, its_links};
+ghost use Rattle.seize.specs.Collectors.{BelongsTo, its_links, its_words};
 ghost use Rattle.seize_uses.specs.Nests.{nest_owners};
 ghost use base.Stored.{coded_unit};
 
-use seize::{Collector, Guard, IdSource, Owned, Refusal, Unlinked, Watch};
+use seize::{Collector, Guard, IdSource, Owned, Refusal, Watch};
 use seize_uses::nest::{Nest, PutInside, around};
 use std::alloc::{AllocError, Global};
 use std::sync::Wait;
@@ -20,22 +20,22 @@ type Block = Owned<Nest>;
 
 // A collector with one link, and batches of so many values.
 fn collector<'a>(alloc: Global, size: usize, by: PutInside<'a>) -> Result<Nests<'a>, Refusal>
-    ensures { IfOk result (λ made. its_links made ≡ 1) }
+    ensures { IfOk result (λ made. its_links (its_words made) ≡ 1) }
 {
     Ok(Collector::with_reclaimer(alloc, &mut IdSource::new(), 1, 1, by)?.batch_size(size))
 }
 
 // A block with nothing inside.
 fn leaf(alloc: Global, collector: &Nests<'_>, number: u64) -> Result<Block, Refusal>
-    ensures { IfOk result (BelongsTo nest_owners collector.now) }
+    ensures { IfOk result (BelongsTo nest_owners (its_words collector.now)) }
 {
     around(collector, number, Vec::new(alloc))
 }
 
 // A block with one block inside.
 fn round(alloc: Global, collector: &Nests<'_>, number: u64, block: Block) -> Result<Block, Refusal>
-    requires { BelongsTo nest_owners collector.now block }
-    ensures { IfOk result (BelongsTo nest_owners collector.now) }
+    requires { BelongsTo nest_owners (its_words collector.now) block }
+    ensures { IfOk result (BelongsTo nest_owners (its_words collector.now)) }
 {
     let mut inside = Vec::new(alloc);
     inside.push(block).map_err(AllocError::from)?;
@@ -44,7 +44,7 @@ fn round(alloc: Global, collector: &Nests<'_>, number: u64, block: Block) -> Res
 
 // 1 holds 2, which holds 3, and so on.
 fn chain(alloc: Global, collector: &Nests<'_>) -> Result<Block, Refusal>
-    ensures { IfOk result (BelongsTo nest_owners collector.now) }
+    ensures { IfOk result (BelongsTo nest_owners (its_words collector.now)) }
 {
     let mut block = leaf(alloc, collector, MANY)?;
     for number in (1..MANY).rev() {
@@ -64,11 +64,11 @@ fn places(alloc: Global, count: u64) -> Result<Vec<AtomicU64>, AllocError> {
 
 // A registration retires the block, and ends.
 fn retire<W: Wait>(rt: &W, collector: &Nests<'_>, block: Block) -> Result<(), Refusal>
-    requires { BelongsTo nest_owners collector.now block }
+    requires { BelongsTo nest_owners (its_words collector.now) block }
 {
     let mut pass = collector.pass();
     let registration = collector.register(rt, &mut pass)?;
-    let block = Unlinked::from_owned(block, collector);
+    let block = collector.unlinked(block);
     registration.retire(rt, &mut pass, block);
     registration.end(rt, &mut pass);
     Ok(())
@@ -76,11 +76,11 @@ fn retire<W: Wait>(rt: &W, collector: &Nests<'_>, block: Block) -> Result<(), Re
 
 // A registration retires the block, and is forgotten.
 fn retire_and_forget<W: Wait>(rt: &W, collector: &Nests<'_>, block: Block) -> Result<(), Refusal>
-    requires { BelongsTo nest_owners collector.now block }
+    requires { BelongsTo nest_owners (its_words collector.now) block }
 {
     let mut pass = collector.pass();
     let registration = collector.register(rt, &mut pass)?;
-    let block = Unlinked::from_owned(block, collector);
+    let block = collector.unlinked(block);
     registration.retire(rt, &mut pass, block);
     registration.forget();
     Ok(())
@@ -95,8 +95,8 @@ fn retire_beside<W: Wait>(
     second: Block,
     by: PutInside<'_>,
 ) -> Result<u64, Refusal>
-    requires first { BelongsTo nest_owners collector.now first }
-    requires second { BelongsTo nest_owners collector.now second }
+    requires first { BelongsTo nest_owners (its_words collector.now) first }
+    requires second { BelongsTo nest_owners (its_words collector.now) second }
 {
     let mut pass = collector.pass();
     let registration = collector.register(rt, &mut pass)?;
@@ -226,7 +226,7 @@ fn retire_by_two(rt: &impl Wait, alloc: Global, collector: &Nests<'_>) -> Result
     let mut pass = collector.pass();
     let registration = collector.register(rt, &mut pass)?;
     let retired = retire(rt, collector, fourth);
-    registration.retire(rt, &mut pass, Unlinked::from_owned(first, collector));
+    registration.retire(rt, &mut pass, collector.unlinked(first));
     registration.forget();
     retired
 }
@@ -287,7 +287,7 @@ fn a_linked_chain_ends_with_its_collector(rt: HostRuntime) -> Result<(), Fail> {
 }
 
 fn link_a_chain<W: Wait>(rt: &W, alloc: Global, collector: &Nests<'_>) -> Result<(), Refusal>
-    requires { its_links collector.now ≡ 1 }
+    requires { its_links (its_words collector.now) ≡ 1 }
 {
     let first = chain(alloc, collector)?;
     let mut pass = collector.pass();
@@ -320,7 +320,7 @@ fn a_wide_value_ends_in_one_call(rt: HostRuntime) -> Result<(), Fail> {
 
 // 1 holds 2 and the values after it.
 fn wide(alloc: Global, collector: &Nests<'_>) -> Result<Block, Refusal>
-    ensures { IfOk result (BelongsTo nest_owners collector.now) }
+    ensures { IfOk result (BelongsTo nest_owners (its_words collector.now)) }
 {
     let mut inside = Vec::new(alloc);
     for number in 2..MANY + 2 {

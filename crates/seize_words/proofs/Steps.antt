@@ -23,7 +23,8 @@ use Rattle.seize_book.specs.Pairs.{Pair, all_covered, pairs_by}
 use Rattle.seize_book.specs.Permits.{all_permitted}
 use Rattle.seize_book.proofs.Pairs.{covers_all, permits_twice}
 use Rattle.seize_words.specs.Stepping.{IsStepFor, MayStepFor, in_step, FoundAs, NoneEnded, beside_then, held_then, staying, with_births, LooksAt, MayStepWith, HasSteppedWith}
-use Rattle.seize_book.specs.Tokens.{Name, start, inside, knows, keys_own, over, pass_holds, pass_owns}
+use Rattle.seize_book.specs.Bounds.{OneWithin}
+use Rattle.seize_book.specs.Tokens.{Name, adder_owns, start, inside, knows, keys_own, over, pass_adds, pass_holds, pass_owns}
 use Rattle.seize_words.specs.Words.{Site, ShowsWord, ShowsOfKind, AreOtherKeys, AreOtherKeysOf, IsKeyOf, word_knows, word_lies, word_reading}
 use Rattle.seize_book.proofs.Facts.{blocks_within}
 use Rattle.seize_book.proofs.Lives.{ends_those, living, none_over}
@@ -170,7 +171,11 @@ module _ {M : Type 1} {𝓤 : Ura M} (𝓛 : Logic 𝓤) (site : Site) where
     takes_none v t log found stepped stands = let Z : Pr = ⟦ pass_holds n p (log_then v log) ⟧ ∗ ⟦ keys (left_then v t log) ⟧ ∗ ⟦ living 𝓛 alive r ⟧ in
         qed 𝓛 (‵ (pass_holds n p (log_then v log)) ∷ ‵ (keys (left_then v t log)) ∷ ‵ (living 𝓛 alive r) ∷ ‵ ftrue ∷ []) ∵ suffices ! _ (upd_i 𝓤 Z) $ keep ! (0 ∷ 1 ∷ 2 ∷ []) $ done !
 
-    module _ (allowed : List ℕ) (X : Pr) (out : ℕ → At → Fml) (takes : Takes X out) (distinct : IsDistinct 𝓛 n) (may : MayStepFor allowed births site p seen held alive lives f entry trades) (v : ℕ) (t : At) (so : ShowsWord site v t.0 × AreOtherKeys site t.0 t.1) where
+    -- each entry has at most this size
+    abbrev pub Sized : ℕ → Type 0
+    Sized size = (v : ℕ) (log : List Entry) → OneWithin size (entry v log)
+
+    module _ (size : ℕ) (sized : Sized size) (allowed : List ℕ) (X : Pr) (out : ℕ → At → Fml) (takes : Takes X out) (distinct : IsDistinct 𝓛 n) (may : MayStepFor allowed births site p seen held alive lives f entry trades) (v : ℕ) (t : At) (so : ShowsWord site v t.0 × AreOtherKeys site t.0 t.1) where
       abbrev all : List (HeldKey Entry)
       all = in_step site held t
 
@@ -218,11 +223,11 @@ module _ {M : Type 1} {𝓤 : Ura M} (𝓛 : Logic 𝓤) (site : Site) where
       stepped log made = record { log = log; noted = made.0; is_log = made.1; since = t; found = found log made.2 made.3; left = (step log log made.2 made.3).shows; keys = refl }
 
       -- with the word's memory at hand: the event is added, and the word stands for what the list says then
-      adds : (b o : ℕ) → ⟦ word b o (f v) ⟧ ∗ ⟦ J ⟧ ∗ ⟦ pass_holds n p seen ⟧ ∗ ⟦ keys all ⟧ ∗ mine ∗ X ⊢ upd 𝓤 (⟦ word_reading site b o ⟧ ∗ ⟦ J ⟧ ∗ ⟦ after_with out v ⟧)
+      adds : (b o : ℕ) → ⟦ word b o (f v) ⟧ ∗ ⟦ J ⟧ ∗ ⟦ pass_adds n p size seen ⟧ ∗ ⟦ keys all ⟧ ∗ mine ∗ X ⊢ upd 𝓤 (⟦ word_reading site b o ⟧ ∗ ⟦ J ⟧ ∗ ⟦ after_with out v ⟧)
       adds b o = let Z : Pr = ⟦ word_reading site b o ⟧ ∗ ⟦ J ⟧ ∗ ⟦ after_with out v ⟧ in
-          qed 𝓛 (‵ (word b o (f v)) ∷ ‵ J ∷ ‵ (pass_holds n p seen) ∷ ‵ (keys all) ∷ (‵ (over lives) ⊛ ‵ (living 𝓛 alive r) ⊛ ‵ permits) ∷ raw X ∷ []) ∵ move ! (3 ∷ 4 ∷ []) $ join ! $ move ! (2 ∷ 3 ∷ 0 ∷ []) $
+          qed 𝓛 (‵ (word b o (f v)) ∷ ‵ J ∷ ‵ (pass_adds n p size seen) ∷ ‵ (keys all) ∷ (‵ (over lives) ⊛ ‵ (living 𝓛 alive r) ⊛ ‵ permits) ∷ raw X ∷ []) ∵ move ! (3 ∷ 4 ∷ []) $ join ! $ move ! (2 ∷ 3 ∷ 0 ∷ []) $
           use3 𝓛 (raw (upd 𝓤 (ex 𝓤 (λ log. guard 𝓤 (Made 𝓛 n p seen all ev told log) (⟦ J ⟧ ∗ ⟦ pass_holds n p (now log) ⟧ ∗ ⟦ keys_after 𝓛 n all ev log ⟧ ∗ ⟦ living 𝓛 alive r ⟧)))))
-          (by_pass 𝓛 n p seen all ev told mine (λ _. ⟦ living 𝓛 alive r ⟧) distinct within (λ own log before none. ((step own log before none).fair, (step own log before none).its)) permitted tells ends) $
+          (by_pass 𝓛 n p size seen all ev told mine (λ _. ⟦ living 𝓛 alive r ⟧) distinct within (λ own log before none. ((step own log before none).fair, (step own log before none).its, sized v log)) permitted tells ends) $
           settle 𝓛 Z (some (λ (log : List Entry). given (Made 𝓛 n p seen all ev told log) (‵ J ⊛ ‵ (pass_holds n p (now log)) ⊛ ‵ (keys_after 𝓛 n all ev log) ⊛ ‵ (living 𝓛 alive r)))) $
           pick ! (λ log. learn ! (λ made. let is = step log log made.2 made.3 in let log' : List Entry = now log in let left : List (HeldKey Entry) = left_then v t log in
           split ! $ move ! (1 ∷ []) $ split3 ! $
@@ -243,40 +248,40 @@ module _ {M : Type 1} {𝓤 : Ura M} (𝓛 : Logic 𝓤) (site : Site) where
           fpack ! At (heard_with out v) (had log) $ keep ! (0 ∷ []) $ done !))
 
     -- what a holder brings
-    abbrev pub brings : Pr
-    brings = ⟦ pass_holds n p seen ⟧ ∗ ⟦ keys held ⟧ ∗ (⟦ over lives ⟧ ∗ ⟦ living 𝓛 alive r ⟧)
+    abbrev pub brings : ℕ → Pr
+    brings size = ⟦ pass_adds n p size seen ⟧ ∗ ⟦ keys held ⟧ ∗ (⟦ over lives ⟧ ∗ ⟦ living 𝓛 alive r ⟧)
 
     module _ (b o i : ℕ) (κ : Lft) (q : Share) (apart : ¬ (n.number ≡ i)) (distinct : IsDistinct 𝓛 n) where
-      pub steps_for : (allowed : List ℕ) → MayStepFor allowed births site p seen held alive lives f entry trades → (X : Pr) (out : ℕ → At → Fml) → Takes X out
-          → A.named i (fbor κ (word_reading site b o)) ∗ A.named n.number J ∗ A.lft κ q ∗ (⟦ pass_holds n p seen ⟧ ∗ ⟦ keys held ⟧ ∗ (⟦ over lives ⟧ ∗ ⟦ living 𝓛 alive r ⟧ ∗ ⟦ all_permitted n.pairs allowed ⟧) ∗ X) ⊢ asks 𝓛 (block_ptr b o) f always (λ v. fsep (flft κ q) (after_with out v))
-      steps_for allowed may X out takes = let I : Fml = word_reading site b o in let after : ℕ → Fml = after_with out in let G : Pr = ex 𝓤 (LiesWith 𝓛 κ q I b o f always after J) in let permits : Fml = all_permitted n.pairs allowed in
-          borrowed_with 𝓛 κ q I b o f always after i n.number J apart (⟦ pass_holds n p seen ⟧ ∗ ⟦ keys held ⟧ ∗ (⟦ over lives ⟧ ∗ ⟦ living 𝓛 alive r ⟧ ∗ ⟦ permits ⟧) ∗ X)
-          (qed 𝓛 (‵ I ∷ ‵ J ∷ ‵ (pass_holds n p seen) ∷ ‵ (keys held) ∷ (‵ (over lives) ⊛ ‵ (living 𝓛 alive r) ⊛ ‵ permits) ∷ raw X ∷ []) ∵ suffices ! _ (upd_i 𝓤 G) $
+      pub steps_for : (size : ℕ) → Sized size → (allowed : List ℕ) → MayStepFor allowed births site p seen held alive lives f entry trades → (X : Pr) (out : ℕ → At → Fml) → Takes X out
+          → A.named i (fbor κ (word_reading site b o)) ∗ A.named n.number J ∗ A.lft κ q ∗ (⟦ pass_adds n p size seen ⟧ ∗ ⟦ keys held ⟧ ∗ (⟦ over lives ⟧ ∗ ⟦ living 𝓛 alive r ⟧ ∗ ⟦ all_permitted n.pairs allowed ⟧) ∗ X) ⊢ asks 𝓛 (block_ptr b o) f always (λ v. fsep (flft κ q) (after_with out v))
+      steps_for size sized allowed may X out takes = let I : Fml = word_reading site b o in let after : ℕ → Fml = after_with out in let G : Pr = ex 𝓤 (LiesWith 𝓛 κ q I b o f always after J) in let permits : Fml = all_permitted n.pairs allowed in
+          borrowed_with 𝓛 κ q I b o f always after i n.number J apart (⟦ pass_adds n p size seen ⟧ ∗ ⟦ keys held ⟧ ∗ (⟦ over lives ⟧ ∗ ⟦ living 𝓛 alive r ⟧ ∗ ⟦ permits ⟧) ∗ X)
+          (qed 𝓛 (‵ I ∷ ‵ J ∷ ‵ (pass_adds n p size seen) ∷ ‵ (keys held) ∷ (‵ (over lives) ⊛ ‵ (living 𝓛 alive r) ⊛ ‵ permits) ∷ raw X ∷ []) ∵ suffices ! _ (upd_i 𝓤 G) $
           fpick ! (λ v. fsplit ! $ move ! (1 ∷ []) $ fpick ! (λ t. fsplit ! $ fpick ! (λ so. drop ! $
           -- [the word's keys; the word; J; the pass; the holder's keys; what is over; what else is brought]
           fsplit ! $ move ! (1 ∷ 5 ∷ []) $ use2 𝓛 (‵ (keys (t.1 ++ held))) (keys_joined 𝓛 n t.1 held) $ move ! (1 ∷ 0 ∷ []) $ fjoin ! $
           -- [all keys; the word; J; the pass; what is over; what else is brought]
           move ! (1 ∷ []) $ show ! (LiesWith 𝓛 κ q I b o f always after J) v $ frame ! $ each ! (λ (_ : Unit {0}). AgainWith 𝓛 κ q I b o f always after J v) (λ _. assume ! (‵ (word b o (f v))) $
           -- [the word; all keys; J; the pass; what is over; what else is brought]
-          move ! (0 ∷ 2 ∷ 3 ∷ 1 ∷ 4 ∷ 5 ∷ []) $ by ! (adds allowed X out takes distinct may v t so b o))))))
+          move ! (0 ∷ 2 ∷ 3 ∷ 1 ∷ 4 ∷ 5 ∷ []) $ by ! (adds size sized allowed X out takes distinct may v t so b o))))))
 
       -- where nothing else is brought
-      pub steps_permitted : (allowed : List ℕ) → MayStepFor allowed births site p seen held alive lives f entry trades
-          → A.named i (fbor κ (word_reading site b o)) ∗ A.named n.number J ∗ A.lft κ q ∗ (⟦ pass_holds n p seen ⟧ ∗ ⟦ keys held ⟧ ∗ (⟦ over lives ⟧ ∗ ⟦ living 𝓛 alive r ⟧ ∗ ⟦ all_permitted n.pairs allowed ⟧)) ⊢ asks 𝓛 (block_ptr b o) f always (λ v. fsep (flft κ q) (after_step v))
-      steps_permitted allowed may = qed 𝓛 (‵ (fnamed i (fbor κ (word_reading site b o))) ∷ ‵ (fnamed n.number J) ∷ ‵ (flft κ q) ∷ (‵ (pass_holds n p seen) ⊛ ‵ (keys held) ⊛ (‵ (over lives) ⊛ ‵ (living 𝓛 alive r) ⊛ ‵ (all_permitted n.pairs allowed))) ∷ []) ∵ move ! (3 ∷ []) $ split3 ! $
+      pub steps_permitted : (size : ℕ) → Sized size → (allowed : List ℕ) → MayStepFor allowed births site p seen held alive lives f entry trades
+          → A.named i (fbor κ (word_reading site b o)) ∗ A.named n.number J ∗ A.lft κ q ∗ (⟦ pass_adds n p size seen ⟧ ∗ ⟦ keys held ⟧ ∗ (⟦ over lives ⟧ ∗ ⟦ living 𝓛 alive r ⟧ ∗ ⟦ all_permitted n.pairs allowed ⟧)) ⊢ asks 𝓛 (block_ptr b o) f always (λ v. fsep (flft κ q) (after_step v))
+      steps_permitted size sized allowed may = qed 𝓛 (‵ (fnamed i (fbor κ (word_reading site b o))) ∷ ‵ (fnamed n.number J) ∷ ‵ (flft κ q) ∷ (‵ (pass_adds n p size seen) ⊛ ‵ (keys held) ⊛ (‵ (over lives) ⊛ ‵ (living 𝓛 alive r) ⊛ ‵ (all_permitted n.pairs allowed))) ∷ []) ∵ move ! (3 ∷ []) $ split3 ! $
           -- [the pass; the keys; what is over, and the permits; the word; the book; the token]
-          nothing ! $ move ! (4 ∷ 5 ∷ 6 ∷ 1 ∷ 2 ∷ 3 ∷ 0 ∷ []) $ by ! (steps_for allowed may ⟦ ftrue ⟧ tokens takes_none)
+          nothing ! $ move ! (4 ∷ 5 ∷ 6 ∷ 1 ∷ 2 ∷ 3 ∷ 0 ∷ []) $ by ! (steps_for size sized allowed may ⟦ ftrue ⟧ tokens takes_none)
 
       -- where no link is exchanged
-      module _ (may : MayStepWith births site p seen held alive lives f entry trades) where
+      module _ (size : ℕ) (sized : Sized size) (may : MayStepWith births site p seen held alive lives f entry trades) where
         pub steps_with : (X : Pr) (out : ℕ → At → Fml) → Takes X out
-            → A.named i (fbor κ (word_reading site b o)) ∗ A.named n.number J ∗ A.lft κ q ∗ (⟦ pass_holds n p seen ⟧ ∗ ⟦ keys held ⟧ ∗ (⟦ over lives ⟧ ∗ ⟦ living 𝓛 alive r ⟧) ∗ X) ⊢ asks 𝓛 (block_ptr b o) f always (λ v. fsep (flft κ q) (after_with out v))
-        steps_with X out takes = qed 𝓛 (‵ (fnamed i (fbor κ (word_reading site b o))) ∷ ‵ (fnamed n.number J) ∷ ‵ (flft κ q) ∷ (‵ (pass_holds n p seen) ⊛ ‵ (keys held) ⊛ (‵ (over lives) ⊛ ‵ (living 𝓛 alive r)) ⊛ raw X) ∷ []) ∵ move ! (3 ∷ []) $ split3 ! $ move ! (2 ∷ []) $ split ! $ split ! $
+            → A.named i (fbor κ (word_reading site b o)) ∗ A.named n.number J ∗ A.lft κ q ∗ (⟦ pass_adds n p size seen ⟧ ∗ ⟦ keys held ⟧ ∗ (⟦ over lives ⟧ ∗ ⟦ living 𝓛 alive r ⟧) ∗ X) ⊢ asks 𝓛 (block_ptr b o) f always (λ v. fsep (flft κ q) (after_with out v))
+        steps_with X out takes = qed 𝓛 (‵ (fnamed i (fbor κ (word_reading site b o))) ∷ ‵ (fnamed n.number J) ∷ ‵ (flft κ q) ∷ (‵ (pass_adds n p size seen) ⊛ ‵ (keys held) ⊛ (‵ (over lives) ⊛ ‵ (living 𝓛 alive r)) ⊛ raw X) ∷ []) ∵ move ! (3 ∷ []) $ split3 ! $ move ! (2 ∷ []) $ split ! $ split ! $
             -- [what is over; the tokens; X; the pass; the keys; the word; the book; the token]
-            nothing ! $ move ! (2 ∷ 0 ∷ []) $ join ! $ move ! (1 ∷ 0 ∷ []) $ join ! $ move ! (4 ∷ 5 ∷ 6 ∷ 2 ∷ 3 ∷ 0 ∷ 1 ∷ []) $ by ! (steps_for [] may X out takes)
+            nothing ! $ move ! (2 ∷ 0 ∷ []) $ join ! $ move ! (1 ∷ 0 ∷ []) $ join ! $ move ! (4 ∷ 5 ∷ 6 ∷ 2 ∷ 3 ∷ 0 ∷ 1 ∷ []) $ by ! (steps_for size sized [] may X out takes)
 
-        pub steps : A.named i (fbor κ (word_reading site b o)) ∗ A.named n.number J ∗ A.lft κ q ∗ brings ⊢ asks 𝓛 (block_ptr b o) f always (λ v. fsep (flft κ q) (after_step v))
-        steps = qed 𝓛 (‵ (fnamed i (fbor κ (word_reading site b o))) ∷ ‵ (fnamed n.number J) ∷ ‵ (flft κ q) ∷ (‵ (pass_holds n p seen) ⊛ ‵ (keys held) ⊛ (‵ (over lives) ⊛ ‵ (living 𝓛 alive r))) ∷ []) ∵ move ! (3 ∷ []) $ split3 ! $
+        pub steps : A.named i (fbor κ (word_reading site b o)) ∗ A.named n.number J ∗ A.lft κ q ∗ brings size ⊢ asks 𝓛 (block_ptr b o) f always (λ v. fsep (flft κ q) (after_step v))
+        steps = qed 𝓛 (‵ (fnamed i (fbor κ (word_reading site b o))) ∷ ‵ (fnamed n.number J) ∷ ‵ (flft κ q) ∷ (‵ (pass_adds n p size seen) ⊛ ‵ (keys held) ⊛ (‵ (over lives) ⊛ ‵ (living 𝓛 alive r))) ∷ []) ∵ move ! (3 ∷ []) $ split3 ! $
             -- [the pass; the keys; what is over; the word; the book; the token]
             nothing ! $ move ! (4 ∷ 5 ∷ 6 ∷ 1 ∷ 2 ∷ 3 ∷ 0 ∷ []) $ by ! (steps_with ⟦ ftrue ⟧ tokens takes_none)
 
@@ -323,8 +328,14 @@ module _ {M : Type 1} {𝓤 : Ura M} (𝓛 : Logic 𝓤) (site : Site) where
         -- [the word; all keys; J; the pass]
         move ! (0 ∷ 2 ∷ 3 ∷ 1 ∷ []) $ by ! (glances distinct v t so b o w))))))
 
-  -- a pass, opened for a step
-  pub opened : (p : ℕ) (seen : List Entry) → ⟦ pass_owns n p seen ⟧ ⊢ guard 𝓤 (IsDistinct 𝓛 n) (⟦ knows n ⟧ ∗ A.named n.number J ∗ ⟦ pass_holds n p seen ⟧)
-  opened p seen = qed 𝓛 ((‵ (knows n) ⊛ ‵ (pass_holds n p seen)) ∷ []) ∵ split ! $ use1 𝓛 (‵ (knows n) ⊛ ‵ (knows n)) (knows_twice 𝓛 n) $ split ! $ fsplit ! $ move ! (1 ∷ []) $ fsplit ! $ drop ! $ fpick ! (λ distinct. drop ! $ check ! distinct $
+  -- a pass, opened for a look, and for a step
+  opened_with : (P : Fml) → ⟦ fsep (knows n) P ⟧ ⊢ guard 𝓤 (IsDistinct 𝓛 n) (⟦ knows n ⟧ ∗ A.named n.number J ∗ ⟦ P ⟧)
+  opened_with P = qed 𝓛 ((‵ (knows n) ⊛ ‵ P) ∷ []) ∵ split ! $ use1 𝓛 (‵ (knows n) ⊛ ‵ (knows n)) (knows_twice 𝓛 n) $ split ! $ fsplit ! $ move ! (1 ∷ []) $ fsplit ! $ drop ! $ fpick ! (λ distinct. drop ! $ check ! distinct $
       -- [the invariant; the book; the pass]
       move ! (1 ∷ 0 ∷ 2 ∷ []) $ done !)
+
+  pub opened : (p : ℕ) (seen : List Entry) → ⟦ pass_owns n p seen ⟧ ⊢ guard 𝓤 (IsDistinct 𝓛 n) (⟦ knows n ⟧ ∗ A.named n.number J ∗ ⟦ pass_holds n p seen ⟧)
+  opened p seen = opened_with (pass_holds n p seen)
+
+  pub opened_adder : (p size : ℕ) (seen : List Entry) → ⟦ adder_owns n p size seen ⟧ ⊢ guard 𝓤 (IsDistinct 𝓛 n) (⟦ knows n ⟧ ∗ A.named n.number J ∗ ⟦ pass_adds n p size seen ⟧)
+  opened_adder p size seen = opened_with (pass_adds n p size seen)

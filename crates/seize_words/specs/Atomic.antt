@@ -2,6 +2,7 @@
 --     after_exchange seen new v     what a compare and exchange leaves that found v
 --     plus k v, minus k v           what an addition or a subtraction of k leaves that found v, round 2^64
 --     entries pass life event v log     the entry of an event by a step that found v in the word, where the list was this just before
+--     IsSizedBy pass entry     each such entry has at most the pass's batch size
 --     MayTakeStep word keys pass alive lives f entry trades     the holder of the keys may take the step with the pass: see MayStep
 --     TakesStep word keys pass keys' pass' alive f v entry trades     the step was taken and found v: see HasStepped
 --     MayTakeStepIn, TakesStepIn        the same where the activation has not ended
@@ -19,6 +20,7 @@ use Rattle.seize_machine.specs.Machine.Event.{Event}
 use Rattle.seize_machine.specs.Machine.State.{link_at}
 use Rattle.seize_book.specs.Entry.{Entry, Made, Deed}
 use Rattle.seize_book.specs.Book.{after, kinds, links}
+use Rattle.seize_book.specs.Bounds.{OneWithin}
 use Rattle.seize_words.specs.Glimpses.{value_shown}
 use Rattle.seize_book.specs.Laws.{Reader}
 use Rattle.seize_book.specs.Ledger.{HeldKey, WithKinds}
@@ -56,10 +58,13 @@ deed pass life event v log = record { pass = pass.id; size = pass.size; event = 
 abbrev pub entries : Pass → ℕ → Events → ℕ → List Entry → Entry
 entries pass life event v log = Made (deed pass life event v log)
 
+abbrev pub IsSizedBy : Pass → Entries → Type 0
+IsSizedBy pass entry = (v : ℕ) (log : List Entry) → OneWithin pass.size (entry v log)
+
 abbrev pub MayTakeStepWith : Births → Site → Keys → Pass → List ℕ → List ℕ → (ℕ → ℕ) → Entries → (ℕ → Bool) → Type 0
 MayTakeStepWith births word keys pass alive lives f entry trades =
     (word.name ≡ pass.name) × (keys.name ≡ pass.name)
-    × MayStepWith births word pass.id pass.seen keys.held alive lives f entry trades
+    × MayStepWith births word pass.id pass.seen keys.held alive lives f entry trades × IsSizedBy pass entry
 
 abbrev pub TakesStepWith : Births → Site → Keys → Pass → Keys → Pass → List ℕ → (ℕ → ℕ) → ℕ → Entries → (ℕ → Bool) → Type 0
 TakesStepWith births word keys pass keys' pass' alive f v entry trades =
@@ -77,7 +82,7 @@ TakesStep = TakesStepWith []
 abbrev pub MayTakeStepFor : Site → Keys → Pass → List ℕ → Permit → (ℕ → ℕ) → Entries → (ℕ → Bool) → Type 0
 MayTakeStepFor word keys pass alive permit f entry trades =
     (word.name ≡ pass.name) × (keys.name ≡ pass.name) × (permit.list ≡ pass.name.pairs)
-    × MayStepFor permit.codes [] word pass.id pass.seen keys.held alive [] f entry trades
+    × MayStepFor permit.codes [] word pass.id pass.seen keys.held alive [] f entry trades × IsSizedBy pass entry
 
 abbrev pub MayTakeStepIn : Site → Keys → Pass → Activation → Permit → (ℕ → ℕ) → Entries → (ℕ → Bool) → Type 0
 MayTakeStepIn word keys pass activation = MayTakeStepFor word keys pass (activation.life ∷ [])

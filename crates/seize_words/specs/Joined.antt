@@ -1,5 +1,6 @@
 -- The words in which the contracts speak of all words of one book.
---     words_book words               the book whose words they are;  with_size words n     the same, with this batch size
+--     words_book words               the book whose words they are;  with_size words n     the same, with this batch size; the
+--                                    greatest that there was is no less then
 --     OpensWords words porter numbers next links size     a new book with no slot yet, with so many links, which are empty; the porter of
 --                                    its passes, which is at home, with this batch size; and what its slots are made with
 --     IsHolder key pass slot         the key is that of this slot, which is there, as the pass has seen
@@ -17,7 +18,7 @@ use Rattle.seize_words.specs.Reserved.{HasNextSlot}
 use Rattle.seize_book.specs.Others.{rest_of}
 use Rattle.seize_book.specs.Slots.{IsKeyOfBook, slot_number}
 use Rattle.seize_book.specs.Tokens.{Name}
-use Rattle.seize_book.specs.Porters.{IsFirstPorter}
+use Rattle.seize_book.specs.Porters.{IsFirstPorter, most_raised}
 use Rattle.seize_words.specs.Totals.{made_of, slots_seen}
 use Rattle.seize_words.specs.declared.activation.Activation.{Activation}
 use Rattle.seize_book.specs.declared.book.numbers_key.NumbersKey.{NumbersKey}
@@ -40,11 +41,12 @@ pub record HasJustBegun (book : Seen) (numbers : NumbersKey) (next : NextSlot) (
   pub next_is : HasNextSlot numbers next
 
 abbrev pub with_size : {T : Type 0} → Words T → ℕ → Words T
-with_size words n = record words { size = n }
+with_size words n = record words { size = n; sizes = most_raised words.sizes n }
 
 abbrev pub OpensWords : {T : Type 0} → Words T → Porter → NumbersKey → NextSlot → ℕ → ℕ → Type 0
 OpensWords words porter numbers next many size =
     IsFirstPorter words.blocks.book porter size × HasJustBegun words.blocks.book numbers next many × (words.size ≡ size)
+    × (words.sizes.most ≡ size)
 
 abbrev pub IsHolder : SlotKey → Pass → ℕ → Type 0
 IsHolder key pass s = IsKeyOfBook key pass × (slot_number key ≡ s) × (s < slots_seen pass)

@@ -50,23 +50,17 @@ impl<T: Drop> Blocks<T> {
     }
 
     /// A block of the value, and the key for that value, by the number that the block has in the store. Where no chunk is in, it asks for
-    /// memory, as `Store::add` does; each chunk of a new row has a block of its own. The pass stays as it was.
+    /// memory, as `Store::add` does; each chunk of a new row has a block of its own.
     ///
     /// # Errors
     ///
     /// `NoMemory` where that growth was refused; the value comes back.
-    pub fn add(
-        &self,
-        value: T,
-        pass: &mut Pass,
-    ) -> Result<(ValueKey, Bare<Header, Part, T>), (Refusal, T)>
-        requires { blocks_book self.now ≡ pass.old.name }
-        ensures pass { pass.new ≡ pass.old }
+    pub fn add(&self, value: T) -> Result<(ValueKey, Bare<Header, Part, T>), (Refusal, T)>
         ensures made { IfOk result (λ made. IsBlockIn self.now value made.0 made.1) }
         ensures refused { IfErr result (λ refused. (refused.0 ≡ NoMemory) × (refused.1 ≡ value)) }
     {
         let block = self.store.add(value, &self.book)?;
-        Ok(self.take_key(block, pass))
+        Ok(self.take_key(block))
     }
 
     /// The same with the last spot of the list, where it has one: then it takes no atomic step and no memory.
@@ -78,11 +72,8 @@ impl<T: Drop> Blocks<T> {
         &self,
         spots: &mut Spots<Header, Part, T>,
         value: T,
-        pass: &mut Pass,
     ) -> Result<(ValueKey, Bare<Header, Part, T>), (Refusal, T)>
-        requires book { blocks_book self.now ≡ pass.old.name }
-        requires spots { AreSpotsIn self.now spots.old }
-        ensures pass { pass.new ≡ pass.old }
+        requires { AreSpotsIn self.now spots.old }
         ensures made { IfOk result (λ made. IsBlockIn self.now value made.0 made.1) }
         ensures refused { IfErr result (λ refused. (refused.0 ≡ NoMemory) × (refused.1 ≡ value) × is_empty_list spots.old) }
         ensures spots { AreSpotsIn self.now spots.new }
@@ -90,7 +81,7 @@ impl<T: Drop> Blocks<T> {
             is_empty_list spots.old ⊎ (titles_of spots.old ≡ titles_of spots.new ++ bare_title made.1 ∷ [])) }
     {
         let block = self.store.add_from(spots, value, &self.book)?;
-        Ok(self.take_key(block, pass))
+        Ok(self.take_key(block))
     }
 
     /// An empty list of spots for its blocks, with room for `SPOTS`, which is all the memory that it ever takes. Whoever makes and ends
@@ -106,21 +97,15 @@ impl<T: Drop> Blocks<T> {
     }
 
     // The key for the value of this block comes out of it.
-    fn take_key(
-        &self,
-        block: Owned<Header, Part, T>,
-        pass: &mut Pass,
-    ) -> (ValueKey, Bare<Header, Part, T>)
-        requires book { blocks_book self.now ≡ pass.old.name }
-        requires store { (blocks_book self.now).store ≡ store_of block }
-        ensures pass { pass.new ≡ pass.old }
+    fn take_key(&self, block: Owned<Header, Part, T>) -> (ValueKey, Bare<Header, Part, T>)
+        requires { (blocks_book self.now).store ≡ store_of block }
         ensures made { IsBlockIn self.now (owned_value block) result.0 result.1 }
         ensures title { bare_title result.1 ≡ title_of block }
     {
         let (part, block) = block.split();
         let Part { key, book } = part;
         let known = block.known();
-        pass.agree(&book);
+        self.book.agree(&book);
         let key = key.place(block.number() as u64, known);
         (key, block)
     }

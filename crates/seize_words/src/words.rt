@@ -13,8 +13,8 @@ use crate::glimpse::{Found, Glimpse};
 use crate::link::{Expected, Expects, Links, MaybeKey};
 use crate::slots::{NextSlot, Reservation, Slots};
 use seize_book::book::{
-    BookKeys, Condition, FutureBook, NumbersKey, Pass, Permit, Permits, Porter, Seen, SlotKey,
-    Storage,
+    BookKeys, Condition, FutureBook, NumbersKey, Pass, Permit, Permits, Porter, Seen, Sizes,
+    SlotKey, Storage,
 };
 use seize_store::Store;
 use seize_table::Refusal;
@@ -34,8 +34,13 @@ pub struct Words<T> {
     pub blocks: Blocks<T>,
     /// The batch size, in values. A size of 0 serves as 1.
     pub size: usize,
+    /// The greatest batch size that there was.
+    pub sizes: Sizes,
+    /// The id of the collector whose words they are: a number that its maker gave.
+    pub id: u64,
     ghost linked: { links_name links ≡ blocks_book blocks },
     ghost slotted: { slots_book slots ≡ blocks_book blocks },
+    ghost sized: { sizes.name ≡ blocks_book blocks },
 }
 
 impl<T: Drop> Words<T> {
@@ -56,9 +61,9 @@ impl<T: Drop> Words<T> {
 
     /// The words of a new book, with so many links, which are empty, and no slot; the list of the codes that may be lent with its values
     /// and that of the pairs that its links may go through; the porter of its passes, which is at home; and the two keys with which its
-    /// slots are made. A slot attempts its batch when that has
-    /// `size` values, and at least one; `set_size` sets another size. The table of heads has the buckets of the numbers from 0 to
-    /// `capacity`. It asks for their memory and for that of the links; the store of blocks has no rows yet.
+    /// slots are made. A slot attempts its batch when that has `size` values, and at least one; `set_size` sets another size. The words
+    /// keep the `id`. The table of heads has the buckets of the numbers from 0 to `capacity`. It asks for their memory and for that of the
+    /// links; the store of blocks has no rows yet.
     ///
     /// # Errors
     ///
@@ -68,6 +73,7 @@ impl<T: Drop> Words<T> {
         capacity: usize,
         links: usize,
         size: usize,
+        id: u64,
     ) -> Result<
         (
             Words<T>,
@@ -81,6 +87,7 @@ impl<T: Drop> Words<T> {
     >
         ensures made { IfOk result (λ opened. OpensWords opened.0 opened.3 opened.4 opened.5 links size) }
         ensures shared { IfOk result (λ opened. AreShared opened.0.links) }
+        ensures id { IfOk result (λ opened. opened.0.id ≡ id) }
         ensures permits { IfOk result (λ opened. ArePermitsOf (words_book opened.0) opened.1) }
         ensures pairs { IfOk result (λ opened. ArePairsOf (words_book opened.0) opened.2) }
         ensures refused { IfErr result (λ e. (e ≡ NoNumbers) ⊎ (e ≡ NoMemory)) }
@@ -95,7 +102,7 @@ impl<T: Drop> Words<T> {
             &store, &table, &permits, &pairs, unopened, links, size,
         );
         let blocks = Blocks::of(store, book);
-        let (words, numbers, next) = Words::of(alloc, blocks, table, keys, links, size)?;
+        let (words, numbers, next) = Words::of(alloc, blocks, table, keys, links, size, id)?;
         Ok((words, permits, pairs, porter, numbers, next))
     }
 
@@ -134,12 +141,13 @@ impl<T: Drop> Words<T> {
         keys: BookKeys,
         links: usize,
         size: usize,
+        id: u64,
     ) -> Result<(Words<T>, NumbersKey, NextSlot), Refusal>
         requires lie { blocks.book.name.table ≡ name_of table }
         requires keys { HasKeys blocks.book keys links blocks.book.name.store blocks.book.name.table }
         ensures made { IfOk result (λ made. (made.0.blocks.book ≡ blocks.book) × (made.1 ≡ keys.numbers) × HasNextSlot made.1 made.2
             × AreShared made.0.links) }
-        ensures size { IfOk result (λ made. made.0.size ≡ size) }
+        ensures size { IfOk result (λ made. (made.0.size ≡ size) × (made.0.sizes ≡ keys.sizes) × (made.0.id ≡ id)) }
         ensures refused { IfErr result (λ e. e ≡ NoMemory) }
     {
         let BookKeys {
@@ -147,6 +155,7 @@ impl<T: Drop> Words<T> {
             total,
             next,
             links: left,
+            sizes,
         } = keys;
         let book = &blocks.book;
         let links = Links::new(alloc, links, left, book.again())?;
@@ -157,6 +166,8 @@ impl<T: Drop> Words<T> {
             slots,
             blocks,
             size,
+            sizes,
+            id,
         };
         Ok((words, numbers, next))
     }
@@ -167,7 +178,7 @@ impl<T: Drop> Words<T> {
         ensures words { self.new ≡ with_size self.old size }
         ensures porter { Resizes porter.old porter.new size }
     {
-        porter.set_size(size);
+        porter.set_size(size, &mut self.sizes);
         self.size = size;
     }
 

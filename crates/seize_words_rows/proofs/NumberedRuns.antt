@@ -1,5 +1,5 @@
 -- The steps of the worked run by numbers.
-use Rattle.std.proofs.Common.{◌≡◌, ℕ, ◌+◌, ◌-◌, ◌<◌, ◌^◌, ◌==◌, pos, negsuc, ◌+ℤ◌, Bool, if◌then◌else◌, true, false, List, [], ◌∷◌, Some, length, unwrap_or, refl, sym, ap, ◌∙◌, subst, arith}
+use Rattle.std.proofs.Common.{◌≡◌, ℕ, ◌+◌, ◌-◌, ◌<◌, ◌^◌, ◌==◌, pos, negsuc, ◌+ℤ◌, Bool, if◌then◌else◌, true, false, List, [], ◌∷◌, Some, unwrap_or, refl, sym, ap, ◌∙◌, subst, arith}
 use Rattle.std.specs.Prelude.{slice_index_or}
 use mathlib.Core.List.{IsPrefix}
 use base.Growing.{prefix_refl}
@@ -25,10 +25,10 @@ use Rattle.seize_book.specs.declared.book.slot_key.SlotKey.{SlotKey}
 use Rattle.seize_words.specs.Chunks.{IsHeaderOf, header_home}
 use Rattle.seize_words.specs.Counts.{MayCountDown, MayCountUp, count_seen, home}
 use Rattle.seize_words.specs.Headers.{HasWritten, Stores}
-use Rattle.seize_words.specs.Heads.{IsMade, IsTrying}
+use Rattle.seize_words.specs.Heads.{IsTrying}
 use Rattle.seize_words.specs.Reservations.{IsLastOf, TriesAt, beginning, slot}
 use Rattle.seize_words.specs.Reserved.{IsHeadAt, MakesNextSlot, next_key}
-use Rattle.seize_words.specs.Totals.{made_of, slots_seen}
+use Rattle.seize_words.specs.Totals.{made_of}
 use Rattle.seize_words.specs.Walks as walks
 use Rattle.seize_words.specs.declared.activation.Activation.{Activation}
 use Rattle.seize_words.specs.declared.batch.Count.{Count}
@@ -52,17 +52,7 @@ makes_slot n numbers numbers' next next' pass pass' key s from to makes is book 
 pub is_of : (n : Name) (key : SlotKey) (pass : Pass) (s : ℕ) (now known : Stage) → Sees n pass now → Knows n key s known → IsKeyOfBook key pass
 is_of n key pass s now known sees knows = knows.book ∙ sym sees.book
 
--- a slot is there, as the pass has seen
-pub is_there : (n : Name) (pass : Pass) (now : Stage) (m : ℕ) → Sees n pass now → m < length now.state.slots → m < slots_seen pass
-is_there n pass now m sees less =
-    subst (λ (k : ℕ). m < k) (sym (ap (λ (z : Name). length (after (start z) pass.seen).slots) sees.book ∙ ap (λ (st : State). length st.slots) sees.leads.state)) less
-
--- the slot's head that is found is there, as the pass has seen then
-pub made_at : (n : Name) (pass : Pass) (now : Stage) (m : ℕ) (head : Head) → Sees n pass now → IsHeadAt pass m head → m < length now.state.slots → IsMade head.word pass.seen
-made_at n pass now m head sees its less =
-    subst (λ (t : Name × ℕ). t.1 < length (after (start t.0) pass.seen).slots) (λ j. (sym its.0 j, sym its.1 j)) (is_there n pass now m sees less)
-
--- and after the look for it, an event of the slot takes the machine on
+-- after the look for a slot's head, an event of the slot takes the machine on
 pub at_head : (n : Name) (key key' : SlotKey) (pass mid pass' : Pass) (head : Head) (s m life : ℕ) (event : ℕ → ℕ → Event) (from known to : Stage) (answer : Answer) → LooksOn pass mid → IsHeadAt mid m head
     → AddsDeed key mid key' pass' (beginning mid life (event (slot_number key) (slot head))) → Sees n pass from → Knows n key s known → Goes from (event s m) to answer → Leads n pass' key' s to
 at_head n key key' pass mid pass' head s m life event from known to answer looks its notes sees knows goes =

@@ -13,7 +13,7 @@ use std::mem;
 pub fn begin(alloc: Global) -> Option<Porter>
     ensures home { IfSome result (λ porter. IsAtHome porter) }
 {
-    match Words::<u64>::new::<AnyCode, AnyCode>(alloc, 0, 1, 32) {
+    match Words::<u64>::new::<AnyCode, AnyCode>(alloc, 0, 1, 32, 1) {
         Ok((_, _, _, porter, _, _)) => Some(porter),
         Err(_) => None,
     }

@@ -60,7 +60,7 @@ pub fn lend_and_note(
     ensures value { IfSome result (λ had. had.0 ≡ value) }
     ensures noted { IfSome result (λ had. had.1 ≡ note) }
 {
-    let Ok((mut key, block)) = blocks.add(value, pass) else {
+    let Ok((mut key, block)) = blocks.add(value) else {
         return None;
     };
     let lent = lend(blocks, permits, &mut key, block);

@@ -31,7 +31,7 @@ pub fn open(alloc: Global) -> Option<(Words<u64>, Porter, Source, Permits<AnyCod
     ensures porter { IfSome result (λ opened. IsPorterOf opened.0 opened.1) }
     ensures permits { IfSome result (λ opened. ArePermitsOf (words_book opened.0) opened.3) }
 {
-    let made = Words::new::<AnyCode, AnyCode>(alloc, 0, 1, 32);
+    let made = Words::new::<AnyCode, AnyCode>(alloc, 0, 1, 32, 1);
     let Ok((words, permits, _, mut porter, numbers, next)) = made else {
         return None;
     };

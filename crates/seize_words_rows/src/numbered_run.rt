@@ -53,7 +53,7 @@ pub fn begin(
     ensures retirer { IfSome result (λ begun. Leads (words_book begun.0) begun.3 begun.2 1 two_made) }
     ensures permits { IfSome result (λ begun. ArePermitsOf (words_book begun.0) begun.4) }
 {
-    let made = Words::new::<AnyCode, AnyCode>(alloc, 0, 1, 1);
+    let made = Words::new::<AnyCode, AnyCode>(alloc, 0, 1, 1, 1);
     let Ok((words, permits, _, porter, numbers, next)) = made else {
         return None;
     };
@@ -108,7 +108,7 @@ pub fn retire(
     ensures value { IfSome result (λ retired. retired.lent.value ≡ value) }
     ensures stands { IfSome result (λ retired. IsAtStages words.now retired pass.new put retirer.new 1 put) }
 {
-    let Ok((mut key, block)) = words.blocks.add(value, pass) else {
+    let Ok((mut key, block)) = words.blocks.add(value) else {
         return None;
     };
     let lent = lend(&words.blocks, permits, &mut key, block);

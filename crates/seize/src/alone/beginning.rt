@@ -33,7 +33,7 @@ impl<T: Drop> Alone<T> {
         links: usize,
     ) -> Result<Alone<T>, Refusal>
         ensures made { IfOk result (λ made. IsNextPowerOfTwo (greater 32 processors) made.size × (made.links ≡ links) × (made.seen ≡ [])
-            × (made.id ≡ ids.old) × (ids.new ≡ ids.old + 1)) }
+            × (made.most ≡ made.size) × (made.id ≡ ids.old) × (ids.new ≡ ids.old + 1)) }
         ensures state { IfOk result (λ made. made.state ≡ new made.size links) }
         ensures refused { IfErr result (λ refusal. (ids.new ≡ ids.old) × IsRefusalFor processors ids.old refusal) }
     {
@@ -60,7 +60,7 @@ impl<T: Drop, R: Reclaim<T>> Alone<T, R> {
         reclaimer: R,
     ) -> Result<Alone<T, R>, Refusal>
         ensures made { IfOk result (λ made. IsNextPowerOfTwo (greater 32 processors) made.size × (made.links ≡ links) × (made.seen ≡ [])
-            × (made.id ≡ ids.old) × (ids.new ≡ ids.old + 1)) }
+            × (made.most ≡ made.size) × (made.id ≡ ids.old) × (ids.new ≡ ids.old + 1)) }
         ensures state { IfOk result (λ made. made.state ≡ new made.size links) }
         ensures refused { IfErr result (λ refusal. (ids.new ≡ ids.old) × IsRefusalFor processors ids.old refusal) }
     {
@@ -80,12 +80,13 @@ impl<T: Drop, R: Reclaim<T>> Alone<T, R> {
         reclaimer: R,
     ) -> Result<Alone<T, R>, Refusal>
         requires { processors ≤ 2 ^ 63 }
-        ensures made { IfOk result (λ made. (made.size ≡ size) × (made.id ≡ id) × (made.links ≡ links) × (made.seen ≡ [])) }
+        ensures made { IfOk result (λ made. (made.size ≡ size) × (made.most ≡ size) × (made.id ≡ id) × (made.links ≡ links)
+            × (made.seen ≡ [])) }
         ensures state { IfOk result (λ made. made.state ≡ new size links) }
         ensures refused { IfErr result (λ refusal. refusal ≡ no_memory) }
     {
         let (mut words, permits, pairs, porter, key, next) = Words::new(
-            alloc, processors, links, size,
+            alloc, processors, links, size, id,
         )?;
         let ender = Ender {
             reclaimer,
@@ -106,7 +107,6 @@ impl<T: Drop, R: Reclaim<T>> Alone<T, R> {
             places: Vec::new(alloc),
             made: 0,
             ender,
-            id,
             alloc,
             hands,
         })
@@ -123,7 +123,6 @@ impl<T: Drop, R: Reclaim<T>> Alone<T, R> {
             places,
             made,
             ender,
-            id,
             alloc,
             hands,
         } = self;
@@ -138,7 +137,6 @@ impl<T: Drop, R: Reclaim<T>> Alone<T, R> {
             places,
             made,
             ender,
-            id,
             alloc,
             hands,
         }

@@ -9,6 +9,7 @@ use crate::alone::links::exchange_at;
 use crate::alone::{Alone, Codes};
 use crate::block::{Owned, Shared, Taken};
 use seize_parts::alone::place::{Place, Unit};
+use seize_parts::block::{add_block, show};
 use seize_parts::reclaim::Reclaim;
 use seize_table::Refusal;
 use seize_words::lasting::Lasting;
@@ -36,7 +37,8 @@ impl<T: Drop, R: Reclaim<T>> Alone<T, R> {
     ghost use Rattle.seize_model.specs.Waiting.Calls as calls;
     ghost use Rattle.seize.specs.Alones.{IsSame, ListGrows, name_at};
     ghost use Rattle.seize_parts.specs.Blocks.{Belongs};
-    ghost use Rattle.seize.specs.Links.{IsTakenOf, found_name, shared_book, shared_value, taken_content};
+    ghost use Rattle.seize_parts.specs.Links.{found_name, shared_book, shared_value};
+    ghost use Rattle.seize.specs.Takens.{IsTakenOf, taken_content};
     ghost use Rattle.seize.specs.Looks.{with_link};
 
     /// A block of this value. It asks for memory only where the store has no free place.
@@ -49,9 +51,7 @@ impl<T: Drop, R: Reclaim<T>> Alone<T, R> {
         ensures refused { IfErr result (λ refused. (refused.0 ≡ no_memory) × (refused.1 ≡ value)) }
         ensures same { self.new ≡ self.old }
     {
-        let words = &self.words;
-        let (key, block) = words.blocks.add(value, &mut self.pass)?;
-        Ok(Owned::of(key, block, &words.blocks.book))
+        add_block(&self.words, value)
     }
 
     /// A block that was never in a link, ready to be retired. The block is of this collector, with each block inside it that the
@@ -149,6 +149,6 @@ impl<T: Drop, R: Reclaim<T>> Alone<T, R> {
         };
         let mut glimpse = found.glimpse;
         let lasting = Lasting::of_sight(glimpse.again().sight(), &self.words.blocks.book);
-        Ok(Some(Shared::of(found.value, word, glimpse, lasting)))
+        Ok(Some(show(found.value, word, glimpse, lasting)))
     }
 }

@@ -8,7 +8,7 @@ ghost use Rattle.seize_alone.specs.Events.{MakesAlone};
 ghost use Rattle.seize_book.specs.Homesteads.{state_seen};
 ghost use Rattle.seize_book.specs.Tokens.{IsSole};
 ghost use Rattle.seize_machine.specs.Machine.State.{link_at};
-ghost use Rattle.seize_calls.specs.Slots.{IsLooseOf, IsPassFor, IsReadable};
+ghost use Rattle.seize_calls.specs.Slots.{IsLooseOf, IsPassOf, IsReadable};
 ghost use Rattle.seize_words.specs.Joined.{words_book};
 ghost use Rattle.seize_words.specs.Named.{link_count};
 ghost use Rattle.seize_words.specs.Rows.{IsSameBut, IsSharedAt, StandsAt};
@@ -32,7 +32,7 @@ fn exchange_in<T: Drop, R: Reclaim<T>>(
     new: Option<Owned<T>>,
     pass: &mut Pass,
 ) -> Option<Loose>
-    requires pass { IsPassFor words.now pass.old × IsSole pass.old.id × (unit.now.seen.name ≡ words_book words.now) }
+    requires pass { IsPassOf words.now pass.old × IsSole pass.old.id × (unit.now.seen.name ≡ words_book words.now) }
     requires link { (link < length (words_book words.now).links) × IsSharedAt words.now.links link }
     requires ender { IsEnderOf words.now ender.now }
     requires own { IfSome new (λ owned. Belongs R.owners (words_book words.now).store owned) }
@@ -57,7 +57,7 @@ pub(crate) fn exchange_at<T: Drop, R: Reclaim<T>>(
     new: Option<Owned<T>>,
     pass: &mut Pass,
 ) -> Option<Loose>
-    requires pass { IsPassFor words.old pass.old × IsSole pass.old.id × (unit.now.seen.name ≡ words_book words.old) }
+    requires pass { IsPassOf words.old pass.old × IsSole pass.old.id × (unit.now.seen.name ≡ words_book words.old) }
     requires link { (link < link_count words.old.links) × ((held : Option ℕ) × StandsAt words.old.links link held) }
     requires ender { IsEnderOf words.old ender.now }
     requires own { IfSome new (λ owned. Belongs R.owners (words_book words.old).store owned) }
@@ -66,7 +66,8 @@ pub(crate) fn exchange_at<T: Drop, R: Reclaim<T>>(
         × IsNamed T.row.coded.code new number × LooseComesOut held result }
     ensures loose { IfSome result (λ loose. IsLooseOf words.old loose × IsReadable loose) }
     ensures words { (words.new.blocks ≡ words.old.blocks) × (words.new.size ≡ words.old.size)
-        × IsSameBut link words.old.links words.new.links }
+        × IsSameBut link words.old.links words.new.links × (words.new.sizes ≡ words.old.sizes)
+        × (words.new.id ≡ words.old.id) }
     ensures stands { StandsAt words.new.links link (link_at (state_seen pass.new) link) }
 {
     words.links.stir_at(link);

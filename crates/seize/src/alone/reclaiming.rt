@@ -15,7 +15,7 @@ impl<T: Drop, R: Reclaim<T>> Alone<T, R> {
     ghost use Rattle.seize_model.specs.Waiting.Further.{with_further};
     ghost use Rattle.seize_model.specs.Waiting.State.{has_guard, model_slot};
     ghost use Rattle.seize.specs.Alones.{IsLinkedSame, ListGrows};
-    ghost use Rattle.seize.specs.Links.{IsTakenOf, taken_content};
+    ghost use Rattle.seize.specs.Takens.{IsTakenOf, taken_content};
     ghost use Rattle.seize_parts.specs.Told.{Answers, Did, only_refusal, told_of};
 
     // The slot leaves with its last guard, and keeps its number.

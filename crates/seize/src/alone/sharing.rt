@@ -1,8 +1,8 @@
 //! From a collector that threads share to one in one caller's hands, and back.
 ghost use Rattle.std.specs.Prelude.{◌≡◌, ℕ, IfErr, IfOk, None, Some, box_value, get_or, length};
-ghost use Rattle.seize.specs.Collectors.{its_book, its_id, its_size, seen_by};
+ghost use Rattle.seize.specs.Collectors.{its_book, its_id, its_most, its_size, seen_by};
 ghost use Rattle.seize_book.specs.Tokens.{IsSole};
-ghost use Rattle.seize_calls.specs.Slots.{IsPassFor};
+ghost use Rattle.seize_calls.specs.Slots.{IsPassOf};
 ghost use Rattle.seize.specs.Alones.{AreNumbersFor};
 ghost use Rattle.seize_words.specs.Joined.{words_book};
 ghost use Rattle.seize_words.specs.Rows.{AreShared};
@@ -19,6 +19,7 @@ use seize_parts::alone::shelving::lay_all;
 use seize_parts::ender::Ender;
 use seize_parts::numbers::Numbers;
 use seize_parts::numbers::resting::Found;
+use seize_parts::parts::Parts;
 use seize_parts::reclaim::Reclaim;
 use seize_words::book::{Pass, Porter};
 use seize_words::words::Words;
@@ -27,7 +28,7 @@ use std::marker::Brand;
 
 impl<T: Drop, R: Reclaim<T>> Collector<T, R> {
     ghost use Rattle.seize_book.specs.Porters.{GoesOnTo};
-    ghost use Rattle.seize.specs.Collectors.{its_links};
+    ghost use Rattle.seize.specs.Collectors.{its_links, its_words};
     ghost use Rattle.seize.specs.Reclaims.{AddsNothing, FindsInUse};
 
     /// Gives the collector to one caller. It goes by value, so passes, guards and registrations are over. Where these were forgotten, by
@@ -44,15 +45,15 @@ impl<T: Drop, R: Reclaim<T>> Collector<T, R> {
     /// where a number is in use, and memory is refused. What had been forgotten stays so.
     pub fn alone(self) -> Result<Alone<T, R>, Collector<T, R>>
         ensures made { IfOk result (λ alone. (alone.book ≡ its_book self) × (alone.size ≡ its_size self) × (alone.id ≡ its_id self)
-            × (alone.links ≡ its_links self) × (alone.state.size ≡ alone.size) × (length alone.state.links ≡ its_links self)
-            × GoesOnTo alone.book (seen_by self) alone.seen × AddsNothing self alone.seen) }
+            × (alone.links ≡ its_links (its_words self)) × (alone.state.size ≡ alone.size) × (length alone.state.links ≡ alone.links)
+            × GoesOnTo alone.book (seen_by self) alone.seen × AddsNothing self alone.seen × (alone.most ≡ its_most self)) }
         ensures back { IfErr result (FindsInUse self) }
     {
-        let (mut words, mut pass, mut numbers, ender, id, alloc) = self.into_parts();
+        let (mut words, mut pass, mut numbers, ender, alloc) = self.into_parts();
         let found = numbers.come_to_rest(&words, &ender, alloc, &mut pass);
         let Found { made, places, all } = found;
         if !all {
-            return Err(shared(words, pass, numbers, places, ender, id, alloc));
+            return Err(shared(words, pass, numbers, places, ender, alloc));
         }
         let hands = Hands::first::<Brand, Vec<Option<Place<T>>>>(&pass, &places);
         words.links.rest(&mut pass);
@@ -63,7 +64,6 @@ impl<T: Drop, R: Reclaim<T>> Collector<T, R> {
             places,
             made,
             ender,
-            id,
             alloc,
             hands,
         })
@@ -77,33 +77,34 @@ pub(super) fn shared<T: Drop, R: Reclaim<T>>(
     numbers: Numbers<T>,
     places: Vec<Option<Place<T>>>,
     ender: Box<Ender<T, R>>,
-    id: u64,
     alloc: Global,
 ) -> Collector<T, R>
-    requires pass { IsPassFor words pass × IsSole pass.id }
+    requires pass { IsPassOf words pass × IsSole pass.id }
     requires numbers { AreNumbersFor words numbers }
     requires ender { IsEnderOf words (box_value ender) }
     requires shared { AreShared words.links }
     requires places { (s : ℕ) (place : Place T) → get_or places.items s None ≡ Some place → MayLay (words_book words) place }
-    ensures same { (its_book result ≡ words_book words) × (its_size result ≡ words.size) × (its_id result ≡ id)
-        × (seen_by result ≡ pass.entry.seen) }
+    ensures same { (its_book result ≡ words_book words) × (its_size result ≡ words.size) × (its_id result ≡ words.id)
+        × (seen_by result ≡ pass.entry.seen) × (its_most result ≡ words.sizes.most) }
 {
     let mut porter = Porter::again(pass);
     let mut places = places;
     porter.leave_home();
     lay_all(&words, &mut places, &porter);
-    Collector {
+    let parts = Parts {
         words,
-        porter,
         numbers: Lock::new(numbers),
         ender,
-        id,
+    };
+    Collector {
+        parts,
+        porter,
         alloc,
     }
 }
 
 impl<T: Drop, R: Reclaim<T>> Alone<T, R> {
-    ghost use Rattle.seize.specs.Collectors.{its_links};
+    ghost use Rattle.seize.specs.Collectors.{its_links, its_words};
 
     /// Gives the collector to threads. What is in use stays so, as if its holder had been forgotten: `Collector::alone` takes it over
     /// again, and `Collector::reclaim_all` or the drop ends it. What threads retire may wait for it, so leave slots first, or call
@@ -112,7 +113,7 @@ impl<T: Drop, R: Reclaim<T>> Alone<T, R> {
     /// It takes no memory, makes no event and waits for nobody.
     pub fn share(self) -> Collector<T, R>
         ensures same { (its_book result ≡ self.book) × (its_size result ≡ self.size) × (its_id result ≡ self.id)
-            × (its_links result ≡ self.links) × (seen_by result ≡ self.seen) }
+            × (its_links (its_words result) ≡ self.links) × (seen_by result ≡ self.seen) × (its_most result ≡ self.most) }
     {
         let Alone {
             mut words,
@@ -121,11 +122,10 @@ impl<T: Drop, R: Reclaim<T>> Alone<T, R> {
             places,
             made: _,
             ender,
-            id,
             alloc,
             hands: _,
         } = self;
         words.links.stir();
-        shared(words, pass, numbers, places, ender, id, alloc)
+        shared(words, pass, numbers, places, ender, alloc)
     }
 }

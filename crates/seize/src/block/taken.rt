@@ -4,7 +4,7 @@ ghost use base.Fml.{ftrue};
 ghost use Rattle.seize_book.specs.Others.{MayRetire};
 ghost use Rattle.seize_calls.specs.Slots.{IsReadable, its_value};
 ghost use Rattle.seize_words.specs.Chunks.{IsLentAs};
-ghost use Rattle.seize.specs.Loose.{may_retire-prop};
+ghost use Rattle.seize_parts.specs.Loose.{may_retire-prop};
 
 use crate::block::Owned;
 use seize_calls::slot::Loose;
@@ -64,7 +64,7 @@ impl<T: Drop> Taken<T> {
     ghost use Rattle.seize_words.specs.Joined.{words_book};
     ghost use Rattle.seize_calls.specs.Slots.{loose_book};
     ghost use Rattle.seize_parts.specs.Blocks.{Belongs, HasContent, content};
-    ghost use Rattle.seize.specs.Links.{IsTakenOf, TakesOut, taken_book, taken_content, taken_name};
+    ghost use Rattle.seize.specs.Takens.{IsTakenOf, TakesOut, taken_book, taken_content, taken_name};
     ghost use Rattle.seize_parts.specs.Enders.{IsEnderOf};
 
     /// What came out of a link.

@@ -5,7 +5,7 @@ ghost use Rattle.seize.specs.Collectors.{BelongsTo, IsPassOf, its_links};
 ghost use Rattle.seize.specs.Guards.{core_collector, owned_collector};
 ghost use Rattle.seize.specs.Registrations.{registered_in};
 
-use seize::{Guard, GuardCore, Owned, OwnedGuard, Pass, Refusal, Registration, Unlinked};
+use seize::{Guard, GuardCore, Owned, OwnedGuard, Pass, Refusal, Registration};
 use std::sync::Wait;
 
 /// How many links a collector has, but for `Pipe`.
@@ -18,6 +18,8 @@ pub(crate) enum Job {
     Enter,
     /// The same, beside a guard that stands.
     Nested,
+    /// It makes an owned guard, which leaves.
+    EnterOwned,
     /// It enters, reads a link, and leaves; or puts a value in, and retires what came out.
     Visit,
     /// It enters, reads all links, and leaves.
@@ -96,6 +98,7 @@ impl Turns {
         let mut pass = registration.collector().pass();
         match self.job {
             Job::Enter | Job::Nested => enter_many(registration, self.turns, rt, &mut pass),
+            Job::EnterOwned => own_many(registration, self.turns, rt, &mut pass),
             Job::Visit => self.visit_many(registration, rt, &mut pass),
             Job::See => see_many(registration, self.turns, rt, &mut pass),
             Job::Retire => retire_many(registration, self.turns, rt, &mut pass),
@@ -145,6 +148,23 @@ fn enter_many<W: Wait>(
     Ok(turns)
 }
 
+// Makes so many owned guards, one after another, each of which leaves.
+fn own_many<W: Wait>(
+    registration: &Registration<'_, u64>,
+    turns: u64,
+    rt: &W,
+    pass: &mut Pass,
+) -> Result<u64, Refusal>
+    requires { IsPassOf (registered_in registration.now) pass.old }
+{
+    let collector = registration.collector();
+    for _ in 0..turns {
+        let guard = collector.enter_owned(rt, pass)?;
+        guard.leave(rt, pass);
+    }
+    Ok(turns)
+}
+
 // Enters, reads a link, and leaves. It gives the value there.
 fn read<W: Wait>(
     registration: &Registration<'_, u64>,
@@ -170,10 +190,10 @@ fn replace<G: Guard<u64>, W: Wait>(
     rt: &W,
     pass: &mut Pass,
 )
-    requires of { IsPassOf (core_collector (G.its_core guard.now)) pass.old × (link < its_links (core_collector (G.its_core guard.now))) }
-    requires new { IfSome new (λ owned. BelongsTo G.Reclaimer.owners (core_collector (G.its_core guard.now)) owned) }
+    requires of { IsPassOf (G.its_collector guard.now) pass.old × (link < its_links (G.its_collector guard.now)) }
+    requires new { IfSome new (λ owned. BelongsTo G.Reclaimer.owners (G.its_collector guard.now) owned) }
     requires rule { (x : Option ℕ) → G.Reclaimer.keeps link x (content_of new) }
-    ensures pass { IsPassOf (core_collector (G.its_core guard.now)) pass.new }
+    ensures pass { IsPassOf (G.its_collector guard.now) pass.new }
 {
     if let Some(old) = guard.core().swap(link, new, pass) {
         guard.defer_retire(rt, pass, old);
@@ -307,7 +327,7 @@ fn retire_new<W: Wait>(
     for value in 0..many {
         match registration.owned(value) {
             Ok(new) => {
-                let new = Unlinked::from_owned(new, registration.collector());
+                let new = registration.collector().unlinked(new);
                 registration.retire(rt, pass, new);
             }
             Err((refusal, _)) => return Err(refusal),

@@ -5,6 +5,7 @@ use crate::book::head_key::HeadKey;
 use crate::book::keys::Keys;
 use crate::book::link_keys::LinkKeys;
 use crate::book::numbers_key::NumbersKey;
+use crate::book::sizes::Sizes;
 use crate::book::slot_key::SlotKey;
 use crate::book::slot_keys::SlotKeys;
 use crate::book::total_key::TotalKey;
@@ -20,15 +21,17 @@ pub struct BookKeys {
     pub next: SlotKeys,
     /// The rights to the links.
     pub links: LinkKeys,
+    /// The right to set the batch size.
+    pub sizes: Sizes,
 }
 
 impl BookKeys {
     ghost use Rattle.seize_book.specs.Books.{AreApart, AreFirst};
 
     // Each key by itself.
-    pub(crate) fn apart(keys: Keys) -> BookKeys
+    pub(crate) fn apart(keys: Keys, sizes: Sizes) -> BookKeys
         requires { AreFirst keys }
-        ensures { AreApart keys result }
+        ensures { AreApart keys result × (result.sizes ≡ sizes) }
     {
         let mut numbers = keys;
         let mut total = numbers.none();
@@ -47,6 +50,7 @@ impl BookKeys {
                 head: HeadKey { keys: head },
             },
             links: LinkKeys { keys: links },
+            sizes,
         }
     }
 }

@@ -44,8 +44,8 @@ impl FutureBook {
         ensures book { Opens result.0 result.1 result.2 links size K.store K.table }
         ensures its { (result.0.name.family ≡ self.family) × (result.0.name.permits ≡ K.permits) × (result.0.name.pairs ≡ K.pairs) }
     {
-        let (book, pass, keys) = Seen::open::<K>(self, links, size);
-        (book, Porter::again(pass), BookKeys::apart(keys))
+        let (book, pass, keys, sizes) = Seen::open::<K>(self, links, size);
+        (book, Porter::again(pass), BookKeys::apart(keys, sizes))
     }
 }
 

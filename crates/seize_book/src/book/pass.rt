@@ -3,7 +3,7 @@ ghost use Rattle.std.specs.Prelude.{◌≡◌, ℕ, List, []};
 ghost use base.Stored.{coded_list};
 ghost use Rattle.seize_book.specs.Entry.{Entry, entry_coded};
 ghost use Rattle.seize_store.specs.Named.{IsRowOf};
-ghost use Rattle.seize_book.specs.Tokens.{Name, lent_pass, name_coded};
+ghost use Rattle.seize_book.specs.Tokens.{Name, name_coded, sized_pass};
 
 use crate::book::permit::Permit;
 use crate::book::porter::Porter;
@@ -22,14 +22,14 @@ pub struct Pass<'p> {
     pub ghost name: { Name } by { name_coded },
     /// Which pass of the book it is.
     pub ghost id: { ℕ },
-    /// The batch size at each event that is added with it.
+    /// The batch size at each event that is added with it, which is one that the book had.
     pub ghost size: { ℕ },
     /// The beginning of the list that it has seen.
     pub ghost seen: { List Entry } by { coded_list entry_coded },
 }
 
 impl<'p> Model for Pass<'p> {
-    ghost also_owns = { λ p. lent_pass p.name 'p p.id p.seen };
+    ghost also_owns = { λ p. sized_pass p.name 'p p.id p.size p.seen };
 }
 
 impl<'p> Pass<'p> {

@@ -1,7 +1,9 @@
 //! Porters: a porter lends the passes of its book to those who share it by `&`, and comes home for a caller who has it alone.
 ghost use Rattle.std.specs.Prelude.{◌≡◌, ℕ, Bool, false, true, List};
+ghost use base.Fml.{fsep};
 ghost use base.Stored.{coded_list};
 ghost use Rattle.std.specs.Coded.{coded_bool};
+ghost use Rattle.seize_book.specs.Bounds.{had_size};
 ghost use Rattle.seize_book.specs.Shared.{porter_has, porter_shares};
 ghost use Rattle.seize_book.specs.Entry.{Entry, entry_coded};
 ghost use Rattle.seize_book.specs.Tokens.{Name, name_coded};
@@ -9,6 +11,7 @@ ghost use Rattle.seize_book.specs.Tokens.{Name, name_coded};
 use crate::book::pass::Pass;
 use crate::book::permit::{Permit, Permitted};
 use crate::book::seen::Seen;
+use crate::book::sizes::Sizes;
 use std::marker::{Model, PhantomData};
 
 /// Lends the passes of its book, of which it is the one porter. If it is dropped, nobody adds to the list any more: the passes that it
@@ -26,9 +29,9 @@ pub struct Porter {
 }
 
 impl Model for Porter {
-    ghost also_owns = { λ p. porter_has p.name p.home p.seen };
+    ghost also_owns = { λ p. fsep (had_size p.name.gate.sizes p.size) (porter_has p.name p.home p.seen) };
 
-    ghost also_shares = { λ p _ κ. porter_shares p.name p.home p.seen κ };
+    ghost also_shares = { λ p _ κ. fsep (had_size p.name.gate.sizes p.size) (porter_shares p.name p.home p.seen κ) };
 }
 
 // Where the first pass lies while it is lent.
@@ -57,7 +60,7 @@ impl Porter {
     ghost use mathlib.Core.List.{IsPrefix};
     ghost use Rattle.seize_book.specs.Lending.{ArePairsPermitted, IsPermitForAll};
     ghost use Rattle.seize_book.specs.Passes.{LooksOn};
-    ghost use Rattle.seize_book.specs.Porters.{ComesHome, GrewByOthers, HadStay, LeavesHome, LendsPass, MayStay, OpensAgain, Resizes, Shuts};
+    ghost use Rattle.seize_book.specs.Porters.{ComesHome, GrewByOthers, HadStay, LeavesHome, LendsPass, MayStay, OpensAgain, Resizes, Shuts, most_raised};
     ghost use Rattle.seize_book.specs.Tokens.{IsSole};
 
     /// A new pass, which has seen what the porter has, and perhaps more; a kept [`Seen`] tells a new pass what an earlier one saw
@@ -95,9 +98,11 @@ impl Porter {
     }
 
     /// Sets the batch size of the passes that it lends from then on. A size of 0 serves as 1: a batch to which a value was just added has
-    /// one. No pass that it lent before lasts. Contracts alone see the size, so a caller keeps the number for its calls.
-    pub fn set_size(&mut self, _size: usize)
-        ensures { Resizes self.old self.new _size }
+    /// one. No pass that it lent before lasts. The greatest size that the book ever had is this one then, if it is greater. Contracts alone
+    /// see the size, so a caller keeps the number for its calls.
+    pub fn set_size(&mut self, _size: usize, sizes: &mut Sizes)
+        requires { sizes.old.name ≡ self.old.name }
+        ensures { Resizes self.old self.new _size × (sizes.new ≡ most_raised sizes.old _size) }
     {}
 
     /// Leaves home: callers who share it by `&` are lent passes from then on.

@@ -14,6 +14,7 @@ use crate::book::future_book::FutureBook;
 use crate::book::keys::Keys;
 use crate::book::pass::Pass;
 use crate::book::rights::Rights;
+use crate::book::sizes::Sizes;
 use seize_content::CellToken;
 use std::marker::{Brand, Model, PhantomData};
 
@@ -58,15 +59,16 @@ impl Storage for Brand {
 impl Seen {
     ghost use Rattle.seize_book.specs.Bare.{IsChunkOf, IsNewChunk};
     ghost use Rattle.seize_book.specs.Books.{BeginsWithKeys};
-    ghost use Rattle.seize_book.specs.Porters.{IsFirst};
+    ghost use Rattle.seize_book.specs.Porters.{HasFirstSize, IsFirst};
 
-    // A new book with all its keys, in the order of `first_keys`, and with its first pass.
+    // A new book with all its keys, in the order of `first_keys`, with its first pass, and with the right to set its size.
     pub(crate) fn open<K: Storage>(
         unopened: FutureBook,
         links: usize,
         size: usize,
-    ) -> (Seen, Pass<'static>, Keys)
-        ensures { IsFirst result.0 result.1 × (result.1.size ≡ size) × BeginsWithKeys result.0 result.2 links K.store K.table
+    ) -> (Seen, Pass<'static>, Keys, Sizes)
+        ensures { IsFirst result.0 result.1 × (result.1.size ≡ size) × HasFirstSize result.0 result.3 size
+            × BeginsWithKeys result.0 result.2 links K.store K.table
             × (result.0.name.family ≡ unopened.family) × (result.0.name.permits ≡ K.permits) × (result.0.name.pairs ≡ K.pairs) }
     {
         let FutureBook { marker: _ } = unopened;
@@ -79,7 +81,10 @@ impl Seen {
         let keys = Keys {
             marker: PhantomData,
         };
-        (book, pass, keys)
+        let sizes = Sizes {
+            marker: PhantomData,
+        };
+        (book, pass, keys, sizes)
     }
 
     /// A copy of it.

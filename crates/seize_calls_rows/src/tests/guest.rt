@@ -17,7 +17,7 @@ fn a_number_goes_back_and_is_taken_again(rt: HostRuntime) {
     let Ok(marks) = marks(rt.alloc(), 1) else {
         panic!(rt; "no memory");
     };
-    let made = Words::new::<AnyCode, AnyCode>(rt.alloc(), 0, 1, 1);
+    let made = Words::new::<AnyCode, AnyCode>(rt.alloc(), 0, 1, 1, 1);
     let Ok((words, _, _, mut porter, numbers, next)) = made else {
         panic!(rt; "no memory");
     };

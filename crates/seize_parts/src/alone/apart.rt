@@ -10,7 +10,7 @@ ghost use Rattle.seize_words.specs.Joined.{words_book};
 ghost use Rattle.seize_calls.specs.Aparts.{without_puts};
 ghost use Rattle.seize_calls.specs.Furthers.{further_in};
 ghost use Rattle.seize_calls.specs.Handing.{Had, IsServed};
-ghost use Rattle.seize_calls.specs.Slots.{HasActivation, IsActive, IsItsHead, IsPassFor, IsSlotOf, KeepsActivation, MayEnterWith};
+ghost use Rattle.seize_calls.specs.Slots.{HasActivation, IsActive, IsItsHead, IsPassOf, IsSlotOf, KeepsActivation, MayEnterWith};
 ghost use Rattle.seize_calls.specs.Slots.{IsTakenAs, SlotFlushes, SlotLeaves, SlotResumes, its_key};
 ghost use Rattle.seize_book.specs.Slots.{active_of};
 ghost use Rattle.seize_alone.specs.Gone.{PutAs};
@@ -116,7 +116,7 @@ pub(crate) fn leave_apart<B: Waited, T: Drop, R: Reclaim<T>, W: Watch<T>>(
     apart: &mut Apart<'_, '_, Forwards<'_, T, R>, W, B>,
     pass: &mut Pass,
 )
-    requires of { IsSlotOf words.now slot.old × IsPassFor words.now pass.old × IsSole pass.old.id }
+    requires of { IsSlotOf words.now slot.old × IsPassOf words.now pass.old × IsSole pass.old.id }
     requires head { IsItsHead slot.old head.now }
     requires inside { HasActivation slot.old rest.old }
     requires new { (apart.old.forwards.ends.had ≡ []) × IsEnderOf words.now apart.old.forwards.ender.now }
@@ -143,7 +143,7 @@ pub(crate) fn leave_into<T: Drop, R: Reclaim<T>, W: Watch<T>>(
     aside: &mut Aside<'_, W>,
     pass: &mut Pass,
 )
-    requires of { IsSlotOf words.now slot.old × IsPassFor words.now pass.old × IsSole pass.old.id }
+    requires of { IsSlotOf words.now slot.old × IsPassOf words.now pass.old × IsSole pass.old.id }
     requires head { IsItsHead slot.old head.now }
     requires inside { HasActivation slot.old rest.old }
     requires ender { IsEnderOf words.now ender.now }
@@ -174,7 +174,7 @@ pub(crate) fn flush_apart<B: Waited, T: Drop, R: Reclaim<T>, W: Watch<T>>(
     apart: &mut Apart<'_, '_, Forwards<'_, T, R>, W, B>,
     pass: &mut Pass,
 )
-    requires of { IsSlotOf words.now slot.old × IsPassFor words.now pass.old × IsSole pass.old.id }
+    requires of { IsSlotOf words.now slot.old × IsPassOf words.now pass.old × IsSole pass.old.id }
     requires inside { IsActive slot.old }
     requires new { (apart.old.forwards.ends.had ≡ []) × IsEnderOf words.now apart.old.forwards.ender.now }
     requires watch { (apart.old.aside.ghost_name ≡ B.name) × (apart.old.aside.now.watch.ghost_name ≡ B.watch)
@@ -198,7 +198,7 @@ pub(crate) fn flush_into<T: Drop, R: Reclaim<T>, W: Watch<T>>(
     aside: &mut Aside<'_, W>,
     pass: &mut Pass,
 )
-    requires of { IsSlotOf words.now slot.old × IsPassFor words.now pass.old × IsSole pass.old.id }
+    requires of { IsSlotOf words.now slot.old × IsPassOf words.now pass.old × IsSole pass.old.id }
     requires inside { IsActive slot.old }
     requires ender { IsEnderOf words.now ender.now }
     requires queue { IsServed (further_in aside.old.queue) (words_book words.now) }
@@ -228,7 +228,7 @@ pub(crate) fn resume_apart<B: Waited, T: Drop, R: Reclaim<T>, W: Watch<T>>(
     apart: &mut Apart<'_, '_, Forwards<'_, T, R>, W, B>,
     pass: &mut Pass,
 )
-    requires of { IsTakenAs true words.now slot.old × IsPassFor words.now pass.old × IsSole pass.old.id }
+    requires of { IsTakenAs true words.now slot.old × IsPassOf words.now pass.old × IsSole pass.old.id }
     requires new { (apart.old.forwards.ends.had ≡ []) × IsEnderOf words.now apart.old.forwards.ender.now }
     requires watch { (apart.old.aside.ghost_name ≡ B.name) × (apart.old.aside.now.watch.ghost_name ≡ B.watch)
         × (W.coded.code (W.seen apart.old.aside.now.watch.now) ≡ B.first) }
@@ -251,7 +251,7 @@ pub(crate) fn resume_into<T: Drop, R: Reclaim<T>, W: Watch<T>>(
     aside: &mut Aside<'_, W>,
     pass: &mut Pass,
 )
-    requires of { IsTakenAs true words.now slot.old × IsPassFor words.now pass.old × IsSole pass.old.id }
+    requires of { IsTakenAs true words.now slot.old × IsPassOf words.now pass.old × IsSole pass.old.id }
     requires ender { IsEnderOf words.now ender.now }
     requires queue { IsServed (further_in aside.old.queue) (words_book words.now) }
     ensures same { KeepsAside aside.old aside.new }

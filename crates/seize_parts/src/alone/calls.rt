@@ -10,7 +10,7 @@ ghost use Rattle.seize_machine.specs.declared.machine.event.Answer.{Answer};
 ghost use Rattle.seize_alone.specs.Events.{MakesAlone};
 ghost use Rattle.seize_alone.specs.Gone.{PutAs};
 ghost use Rattle.seize_calls.specs.Handing.{Had};
-ghost use Rattle.seize_calls.specs.Slots.{HasActivation, IsActive, IsItsHead, IsLooseOf, IsPassFor, IsSlotOf, KeepsActivation};
+ghost use Rattle.seize_calls.specs.Slots.{HasActivation, IsActive, IsItsHead, IsLooseOf, IsPassOf, IsSlotOf, KeepsActivation};
 ghost use Rattle.seize_calls.specs.Slots.{IsTakenAs, MayEnterWith, SlotFlushes, SlotLeaves, SlotRefreshes, SlotResumes, SlotRetires, its_key, its_number};
 ghost use Rattle.seize_book.specs.Slots.{active_of};
 ghost use Rattle.seize_words.specs.Joined.{words_book};
@@ -71,7 +71,7 @@ fn leave_telling<B: Begun, T: Drop, R: Reclaim<T>, W: Watch<T>>(
     tells: &mut Tells<'_, Forwards<'_, T, R>, W, B>,
     pass: &mut Pass,
 )
-    requires of { IsSlotOf words.now slot.old × IsPassFor words.now pass.old × IsSole pass.old.id }
+    requires of { IsSlotOf words.now slot.old × IsPassOf words.now pass.old × IsSole pass.old.id }
     requires head { IsItsHead slot.old head.now }
     requires inside { HasActivation slot.old rest.old }
     requires new { (tells.old.forwards.ends.had ≡ []) × IsEnderOf words.now tells.old.forwards.ender.now }
@@ -133,7 +133,7 @@ fn refresh_telling<B: Begun, T: Drop, R: Reclaim<T>, W: Watch<T>>(
     tells: &mut Tells<'_, Forwards<'_, T, R>, W, B>,
     pass: &mut Pass,
 )
-    requires of { IsSlotOf words.now slot.old × IsPassFor words.now pass.old × IsSole pass.old.id }
+    requires of { IsSlotOf words.now slot.old × IsPassOf words.now pass.old × IsSole pass.old.id }
     requires head { IsItsHead slot.old head.now }
     requires inside { HasActivation slot.old rest.old }
     requires new { (tells.old.forwards.ends.had ≡ []) × IsEnderOf words.now tells.old.forwards.ender.now }
@@ -193,7 +193,7 @@ fn flush_telling<B: Begun, T: Drop, R: Reclaim<T>, W: Watch<T>>(
     tells: &mut Tells<'_, Forwards<'_, T, R>, W, B>,
     pass: &mut Pass,
 )
-    requires of { IsSlotOf words.now slot.old × IsPassFor words.now pass.old × IsSole pass.old.id }
+    requires of { IsSlotOf words.now slot.old × IsPassOf words.now pass.old × IsSole pass.old.id }
     requires inside { IsActive slot.old }
     requires new { (tells.old.forwards.ends.had ≡ []) × IsEnderOf words.now tells.old.forwards.ender.now }
     requires begun { (tells.old.watch.ghost_name ≡ B.name) × (W.coded.code (W.seen tells.old.watch.now) ≡ B.first) }
@@ -247,7 +247,7 @@ fn retire_telling<B: Begun, T: Drop, R: Reclaim<T>, W: Watch<T>>(
     tells: &mut Tells<'_, Forwards<'_, T, R>, W, B>,
     pass: &mut Pass,
 )
-    requires of { IsSlotOf words.now slot.old × IsPassFor words.now pass.old × IsSole pass.old.id }
+    requires of { IsSlotOf words.now slot.old × IsPassOf words.now pass.old × IsSole pass.old.id }
     requires value { IsLooseOf words.now value }
     requires new { (tells.old.forwards.ends.had ≡ []) × IsEnderOf words.now tells.old.forwards.ender.now }
     requires begun { (tells.old.watch.ghost_name ≡ B.name) × (W.coded.code (W.seen tells.old.watch.now) ≡ B.first) }
@@ -300,7 +300,7 @@ fn resume_telling<B: Begun, T: Drop, R: Reclaim<T>, W: Watch<T>>(
     tells: &mut Tells<'_, Forwards<'_, T, R>, W, B>,
     pass: &mut Pass,
 )
-    requires of { IsTakenAs true words.now slot.old × IsPassFor words.now pass.old × IsSole pass.old.id }
+    requires of { IsTakenAs true words.now slot.old × IsPassOf words.now pass.old × IsSole pass.old.id }
     requires new { (tells.old.forwards.ends.had ≡ []) × IsEnderOf words.now tells.old.forwards.ender.now }
     requires begun { (tells.old.watch.ghost_name ≡ B.name) × (W.coded.code (W.seen tells.old.watch.now) ≡ B.first) }
     ensures same_reference { tells.new.watch.ghost_name ≡ tells.old.watch.ghost_name }
@@ -319,7 +319,7 @@ pub fn resume_in<T: Drop, R: Reclaim<T>, W: Watch<T>>(
     pass: &mut Pass,
     watch: &mut W,
 )
-    requires of { IsTakenAs true words.now slot.old × IsPassFor words.now pass.old × IsSole pass.old.id }
+    requires of { IsTakenAs true words.now slot.old × IsPassOf words.now pass.old × IsSole pass.old.id }
     requires ender { IsEnderOf words.now ender.now }
     ensures of { IsSlotOf words.now slot.new × (active_of (its_key slot.new) ≡ active_of (its_key slot.old)) }
     ensures resumes { (had : Had) × SlotResumes slot.old pass.old [] slot.new pass.new had × PutAs T.row.coded.code R.puts had
@@ -349,7 +349,7 @@ pub fn attempt_taken<T: Drop, R: Reclaim<T>, W: Watch<T>>(
     pass: &mut Pass,
     watch: &mut W,
 )
-    requires of { IsTakenAs begun words.now slot.old × IsPassFor words.now pass.old × IsSole pass.old.id }
+    requires of { IsTakenAs begun words.now slot.old × IsPassOf words.now pass.old × IsSole pass.old.id }
     requires ender { IsEnderOf words.now ender.now }
     ensures of { IsSlotOf words.now slot.new × (active_of (its_key slot.new) ≡ active_of (its_key slot.old)) }
     ensures resumes { begun ≡ true → (had : Had) × SlotResumes slot.old pass.old [] slot.new pass.new had

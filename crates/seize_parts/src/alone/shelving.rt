@@ -3,7 +3,7 @@
 ghost use Rattle.std.specs.Prelude.{◌≡◌, ◌<◌, ◌≤◌, ◌-◌, ◌^◌, ℕ, IfSome, Some, None, false, get_or, true};
 ghost use Rattle.seize_book.specs.Homesteads.{state_seen};
 ghost use Rattle.seize_book.specs.Tokens.{IsSole};
-ghost use Rattle.seize_calls.specs.Slots.{IsPassFor, its_number};
+ghost use Rattle.seize_calls.specs.Slots.{IsPassOf, its_number};
 ghost use Rattle.seize_words.specs.Joined.{words_book};
 ghost use Rattle.seize_parts.specs.Placing.{IsLeftAt, MayLay};
 ghost use Rattle.seize_parts.specs.Reservations.{IsReservation, IsReservationOf, IsUnit};
@@ -38,7 +38,7 @@ fn without_guard<T: Drop>(
 ) -> Place<T>
     requires r { IsReservation r × IsReservationOf words.now r × (r.guards ≡ 0) }
     requires shelf { IsShelfFor words.now shelf }
-    requires pass { IsPassFor words.now pass.old × IsSole pass.old.id }
+    requires pass { IsPassOf words.now pass.old × IsSole pass.old.id }
     ensures still { pass.new ≡ pass.old }
     ensures place { IsLeftAt (words_book words.now) (state_seen pass.old) (its_number r.slot) result }
 {
@@ -77,7 +77,7 @@ fn with_guards<T: Drop>(
     requires forgotten { IsForgottenOf (words_book words.now).family forgotten × (forgotten.number ≡ its_number r.slot)
         × (forgotten.count ≡ r.guards) }
     requires shelf { IsShelfFor words.now shelf }
-    requires pass { IsPassFor words.now pass.old × IsSole pass.old.id }
+    requires pass { IsPassOf words.now pass.old × IsSole pass.old.id }
     ensures still { pass.new ≡ pass.old }
     ensures place { IsLeftAt (words_book words.now) (state_seen pass.old) (its_number r.slot) result }
 {
@@ -124,7 +124,7 @@ pub fn found<T: Drop>(
     pass: &mut Pass,
 ) -> Option<Place<T>>
     requires shelf { IsShelfFor words.now shelf }
-    requires pass { IsPassFor words.now pass.old × IsSole pass.old.id }
+    requires pass { IsPassOf words.now pass.old × IsSole pass.old.id }
     ensures still { pass.new ≡ pass.old }
     ensures place { IfSome result (λ place. IsLeftAt (words_book words.now) (state_seen pass.old) n place) }
 {
@@ -152,7 +152,7 @@ fn units_of<T: Drop>(
     pass: &mut Pass,
 ) -> Forgotten
     requires r { IsReservation r.old × IsReservationOf words.now r.old × (r.old.most ≡ 1) }
-    requires pass { IsPassFor words.now pass.old }
+    requires pass { IsPassOf words.now pass.old }
     requires unit { IsUnit (words_book words.now) (its_number r.old.slot) unit.unit unit.seen × (unit.number ≡ its_number r.old.slot) }
     requires some { 0 < guards }
     ensures units { IsForgottenOf (words_book words.now).family result }
@@ -179,7 +179,7 @@ fn units_of<T: Drop>(
 
 // What lies in this place is laid on its shelf, as if the holders of the slot and of its guards had been forgotten.
 fn lay<T: Drop>(words: &Words<T>, place: Place<T>, pass: &mut Pass)
-    requires pass { IsPassFor words.now pass.old }
+    requires pass { IsPassOf words.now pass.old }
     requires place { MayLay (words_book words.now) place }
 {
     let Place {

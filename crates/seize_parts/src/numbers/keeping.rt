@@ -11,7 +11,7 @@ ghost use Rattle.seize_model.specs.declared.kind.Kind.TheVariants.{Registered as
 ghost use Rattle.seize_model.specs.Waiting.Attempt.{attempt_if_full};
 ghost use Rattle.seize_model.specs.Waiting.Calls.{is_free, with_number_in_use};
 ghost use Rattle.seize_model.specs.Waiting.State.{ModelState, has_guard, model_slot};
-ghost use Rattle.seize_calls.specs.Slots.{IsInactive, IsPassFor, IsSlotOf, its_batch, its_number};
+ghost use Rattle.seize_calls.specs.Slots.{IsInactive, IsPassOf, IsSlotOf, its_batch, its_number};
 ghost use Rattle.seize_calls.specs.declared.slot.Slot.{Slot as ASlot};
 ghost use Rattle.seize_alone.specs.Holding.{Holds};
 ghost use Rattle.seize_alone.specs.Reclaiming.{batch_in_turn, batches_in_turn, number_in_turn, numbers_in_turn, rest_in_turn};
@@ -38,7 +38,7 @@ fn attempt<T: Drop, R: Reclaim<T>, W: Watch<T>>(
     pass: &mut Pass,
 )
     requires slot { IsSlotOf words.now slot.old × IsInactive slot.old }
-    requires pass { IsPassFor words.now pass.old × IsSole pass.old.id }
+    requires pass { IsPassOf words.now pass.old × IsSole pass.old.id }
     requires ender { IsEnderOf words.now ender.now }
     requires queue { MayDrain T.row.coded.code (words_book words.now) aside.old.queue }
     ensures slot { IsSlotOf words.now slot.new × IsInactive slot.new × (its_number slot.new ≡ its_number slot.old) }
@@ -68,7 +68,7 @@ impl<T: Drop> Numbers<T> {
         pass: &mut Pass,
     )
         requires numbers { AreSlots self.old × (self.old.book.name ≡ words_book words.now) }
-        requires pass { IsPassFor words.now pass.old × IsSole pass.old.id × IsEnderOf words.now ender.now }
+        requires pass { IsPassOf words.now pass.old × IsSole pass.old.id × IsEnderOf words.now ender.now }
         requires queue { MayDrain T.row.coded.code (words_book words.now) aside.old.queue }
         ensures numbers { AreSlots self.new × KeepsPlaces self.old self.new }
         ensures on { KeepsOn pass.old pass.new × KeepsActive pass.old pass.new × KeepsIdle pass.old pass.new }
@@ -93,7 +93,7 @@ impl<T: Drop> Numbers<T> {
         pass: &mut Pass,
     )
         requires numbers { AreSlots self.old × (self.old.book.name ≡ words_book words.now) × (n < length self.old.kept.items) }
-        requires pass { IsPassFor words.now pass.old × IsSole pass.old.id × IsEnderOf words.now ender.now }
+        requires pass { IsPassOf words.now pass.old × IsSole pass.old.id × IsEnderOf words.now ender.now }
         requires queue { MayDrain T.row.coded.code (words_book words.now) aside.old.queue }
         ensures numbers { AreSlots self.new × KeepsPlaces self.old self.new }
         ensures on { KeepsOn pass.old pass.new × KeepsActive pass.old pass.new × KeepsIdle pass.old pass.new }
@@ -121,7 +121,7 @@ impl<T: Drop> Numbers<T> {
         pass: &mut Pass,
     )
         requires numbers { AreSlots self.old × (self.old.book.name ≡ words_book words.now) × KnowsLeast self.old }
-        requires pass { IsPassFor words.now pass.old × IsSole pass.old.id × IsEnderOf words.now ender.now }
+        requires pass { IsPassOf words.now pass.old × IsSole pass.old.id × IsEnderOf words.now ender.now }
         requires queue { MayDrain T.row.coded.code (words_book words.now) aside.old.queue }
         ensures numbers { AreSlots self.new × KeepsHere self.old self.new × (rest_of self.new.key ≡ []) }
         ensures on { KeepsOn pass.old pass.new × KeepsActive pass.old pass.new × KeepsIdle pass.old pass.new }
@@ -158,7 +158,7 @@ impl<T: Drop> Numbers<T> {
     ) -> Slot<T>
         requires numbers { AreSlots self.old × (self.old.book.name ≡ words_book words.now)
             × (position is_some self.old.slots.items ≡ Some n) }
-        requires pass { IsPassFor words.now pass.old × IsSole pass.old.id × IsEnderOf words.now ender.now }
+        requires pass { IsPassOf words.now pass.old × IsSole pass.old.id × IsEnderOf words.now ender.now }
         requires queue { MayDrain T.row.coded.code (words_book words.now) aside.old.queue }
         ensures numbers { AreSlots self.new × (self.new.book ≡ self.old.book) × (rest_of self.new.key ≡ []) }
         ensures places { (self.new.slots.items ≡ slice_set self.old.slots.items n None) × (self.new.kept ≡ self.old.kept) }
@@ -181,7 +181,7 @@ impl<T: Drop> Numbers<T> {
     /// The numbers of the slots that are kept go back, the last one first.
     pub(super) fn give_all(&mut self, words: &Words<T>, pass: &mut Pass)
         requires numbers { AreSlots self.old × (self.old.book.name ≡ words_book words.now) }
-        requires pass { IsPassFor words.now pass.old × IsSole pass.old.id }
+        requires pass { IsPassOf words.now pass.old × IsSole pass.old.id }
         requires spent { (AreOff pass.old → HaveEmptyBatches self.old.kept.items) × (rest_of self.old.key ≡ []) }
         ensures numbers { AreNumbers self.new × KeepsHere self.old self.new }
         ensures on { KeepsOn pass.old pass.new × KeepsActive pass.old pass.new × KeepsIdle pass.old pass.new }
@@ -198,7 +198,7 @@ impl<T: Drop> Numbers<T> {
     // The number of the slot in this place, if one is kept there, goes back.
     fn give_at(&mut self, words: &Words<T>, n: usize, pass: &mut Pass)
         requires numbers { AreSlots self.old × (self.old.book.name ≡ words_book words.now) × (n < length self.old.kept.items) }
-        requires pass { IsPassFor words.now pass.old × IsSole pass.old.id }
+        requires pass { IsPassOf words.now pass.old × IsSole pass.old.id }
         requires spent { AreOff pass.old → HaveEmptyBatches self.old.kept.items × (rest_of self.old.key ≡ []) }
         ensures numbers { AreSlots self.new × KeepsHere self.old self.new × (self.new.kept.items ≡ slice_set self.old.kept.items n None) }
         ensures on { KeepsOn pass.old pass.new × KeepsActive pass.old pass.new × KeepsIdle pass.old pass.new }

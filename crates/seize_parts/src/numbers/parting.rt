@@ -6,7 +6,7 @@ ghost use Rattle.seize_book.specs.Tokens.{IsSole};
 ghost use Rattle.seize_words.specs.Joined.{words_book};
 ghost use Rattle.seize_model.specs.Waiting.Calls.{is_free, one_guard_less};
 ghost use Rattle.seize_model.specs.Waiting.State.{ModelState, model_slot};
-ghost use Rattle.seize_calls.specs.Slots.{IsInactive, IsPassFor, IsSlotOf, its_number};
+ghost use Rattle.seize_calls.specs.Slots.{IsInactive, IsPassOf, IsSlotOf, its_number};
 ghost use Rattle.seize_calls.specs.declared.slot.Slot.{Slot as ASlot};
 ghost use Rattle.seize_alone.specs.Reclaiming.{last_guard_left, part_in_turn, parts_in_turn};
 ghost use Rattle.seize_parts.specs.Aparts.{AreKeptOf, Fits, Goes, IsIn, MovesToKept, IsSomeHeld, KeepsAside, MayDrain, MayGo, MayPart};
@@ -66,7 +66,7 @@ fn part<T: Drop, R: Reclaim<T>, W: Watch<T>>(
     aside: &mut Aside<'_, W>,
     pass: &mut Pass,
 ) -> Slot<T>
-    requires pass { IsPassFor words.now pass.old × IsSole pass.old.id }
+    requires pass { IsPassOf words.now pass.old × IsSole pass.old.id }
     requires held { IsSomeHeld T.row.coded.code pass.old (IsIn pass.old _s place) }
     requires ender { IsEnderOf words.now ender.now }
     requires queue { MayDrain T.row.coded.code (words_book words.now) aside.old.queue }
@@ -103,7 +103,7 @@ impl<T: Drop> Numbers<T> {
         pass: &mut Pass,
     )
         requires numbers { AreNumbers self.old × (self.old.book.name ≡ words_book words.now) }
-        requires pass { IsPassFor words.now pass.old × IsSole pass.old.id × IsEnderOf words.now ender.now }
+        requires pass { IsPassOf words.now pass.old × IsSole pass.old.id × IsEnderOf words.now ender.now }
         requires held { IsSomeHeld T.row.coded.code pass.old (MayGo pass.old places.old.items) }
         requires queue { MayDrain T.row.coded.code (words_book words.now) aside.old.queue }
         ensures aside { KeepsAside aside.old aside.new × MayDrain T.row.coded.code (words_book words.now) aside.new.queue }
@@ -131,7 +131,7 @@ impl<T: Drop> Numbers<T> {
         pass: &mut Pass,
     )
         requires numbers { AreSlots self.old × (self.old.book.name ≡ words_book words.now) }
-        requires pass { IsPassFor words.now pass.old × IsSole pass.old.id × IsEnderOf words.now ender.now }
+        requires pass { IsPassOf words.now pass.old × IsSole pass.old.id × IsEnderOf words.now ender.now }
         requires held { IsSomeHeld T.row.coded.code pass.old (MayPart pass.old n places.old.items) × (n < length places.old.items) }
         requires queue { MayDrain T.row.coded.code (words_book words.now) aside.old.queue }
         ensures aside { KeepsAside aside.old aside.new × MayDrain T.row.coded.code (words_book words.now) aside.new.queue }
@@ -150,7 +150,7 @@ impl<T: Drop> Numbers<T> {
     // The slot is kept. Its key and that of the numbers know the same list then, so it has a place here.
     fn keep(&mut self, words: &Words<T>, n: usize, slot: Slot<T>, pass: &mut Pass)
         requires numbers { AreSlots self.old × (self.old.book.name ≡ words_book words.now) }
-        requires pass { IsPassFor words.now pass.old × IsSole pass.old.id }
+        requires pass { IsPassOf words.now pass.old × IsSole pass.old.id }
         requires slot { IsSlotOf words.now slot × IsInactive slot × (its_number slot ≡ n) }
         ensures still { pass.new ≡ pass.old }
         ensures numbers { AreSlots self.new × KeepsFree self.old self.new }

@@ -11,7 +11,7 @@ ghost use Rattle.seize_book.specs.Tokens.{IsSole, start};
 ghost use Rattle.seize_book.specs.Values.{IsEmptyIn, values_of};
 ghost use Rattle.seize_words.specs.Joined.{words_book};
 ghost use Rattle.seize_calls.specs.Furthers.{further_in};
-ghost use Rattle.seize_calls.specs.Slots.{IsPassFor};
+ghost use Rattle.seize_calls.specs.Slots.{IsPassOf};
 ghost use Rattle.seize_alone.specs.Reclaiming.{in_turn, kept_in_turn};
 ghost use Rattle.seize_parts.specs.Aparts.{AreKeptOf, Fits, Goes, GoesAll, IsSomeHeld, KeepsAside, MayDrain, MayGo};
 ghost use Rattle.seize_parts.specs.Enders.{IsEnderOf};
@@ -47,7 +47,7 @@ impl<T: Drop> Numbers<T> {
         pass: &mut Pass,
     )
         requires numbers { AreSlots self.old × (self.old.book.name ≡ words_book words.now) × KnowsLeast self.old }
-        requires pass { IsPassFor words.now pass.old × IsSole pass.old.id × IsEnderOf words.now ender.now }
+        requires pass { IsPassOf words.now pass.old × IsSole pass.old.id × IsEnderOf words.now ender.now }
         requires queue { MayDrain T.row.coded.code (words_book words.now) aside.old.queue }
         ensures numbers { AreNumbers self.new × KeepsHere self.old self.new × KnowsLeast self.new }
         ensures on { KeepsOn pass.old pass.new × KeepsActive pass.old pass.new × KeepsIdle pass.old pass.new }
@@ -72,7 +72,7 @@ impl<T: Drop> Numbers<T> {
         pass: &mut Pass,
     ) -> bool
         requires numbers { AreNumbers self.old × (self.old.book.name ≡ words_book words.now) × KnowsLeast self.old }
-        requires pass { IsPassFor words.now pass.old × IsSole pass.old.id × IsEnderOf words.now ender.now }
+        requires pass { IsPassOf words.now pass.old × IsSole pass.old.id × IsEnderOf words.now ender.now }
         requires queue { MayDrain T.row.coded.code (words_book words.now) aside.old.queue }
         ensures numbers { AreNumbers self.new × (self.new.book ≡ self.old.book) × KnowsLeast self.new }
         ensures sweeps { Sweeps pass.old pass.new result }
@@ -94,7 +94,7 @@ impl<T: Drop> Numbers<T> {
         pass: &mut Pass,
     ) -> bool
         requires numbers { AreNumbers self.old × (self.old.book.name ≡ words_book words.now) × KnowsLeast self.old }
-        requires pass { IsPassFor words.now pass.old × IsSole pass.old.id × IsEnderOf words.now ender.now }
+        requires pass { IsPassOf words.now pass.old × IsSole pass.old.id × IsEnderOf words.now ender.now }
         requires queue { MayDrain T.row.coded.code (words_book words.now) aside.old.queue }
         ensures same { KeepsAside aside.old aside.new }
         ensures numbers { AreNumbers self.new × (self.new.book ≡ self.old.book) × KnowsLeast self.new }
@@ -118,7 +118,7 @@ impl<T: Drop> Numbers<T> {
         pass: &mut Pass,
     ) -> bool
         requires numbers { AreNumbers self.old × IsLockFor words.now self.old × KnowsLeast self.old }
-        requires pass { IsPassFor words.now pass.old × IsSole pass.old.id }
+        requires pass { IsPassOf words.now pass.old × IsSole pass.old.id }
         requires ender { IsEnderOf words.now ender.now }
         ensures numbers { AreNumbers self.new × KnowsLeast self.new × IsLockFor words.now self.new }
         ensures sweeps { Sweeps pass.old pass.new result }
@@ -143,7 +143,7 @@ impl<T: Drop> Numbers<T> {
         pass: &mut Pass,
     )
         requires numbers { AreNumbers self.old × (self.old.book.name ≡ words_book words.now) × KnowsLeast self.old }
-        requires pass { IsPassFor words.now pass.old × IsSole pass.old.id × IsEnderOf words.now ender.now }
+        requires pass { IsPassOf words.now pass.old × IsSole pass.old.id × IsEnderOf words.now ender.now }
         requires held { IsSomeHeld T.row.coded.code pass.old (MayGo pass.old places.old.items) }
         requires queue { MayDrain T.row.coded.code (words_book words.now) aside.old.queue }
         ensures aside { KeepsAside aside.old aside.new × MayDrain T.row.coded.code (words_book words.now) aside.new.queue }
@@ -166,7 +166,7 @@ impl<T: Drop> Numbers<T> {
         pass: &mut Pass,
     )
         requires numbers { AreNumbers self.old × (self.old.book.name ≡ words_book words.now) × KnowsLeast self.old }
-        requires pass { IsPassFor words.now pass.old × IsSole pass.old.id × IsLegalList (start pass.old.name) pass.old.seen }
+        requires pass { IsPassOf words.now pass.old × IsSole pass.old.id × IsLegalList (start pass.old.name) pass.old.seen }
         requires held { IsSomeHeld T.row.coded.code pass.old (MayGo pass.old places.old.items) × IsEnderOf words.now ender.now }
         requires queue { IsEmptyIn (words_book words.now) (further_in aside.old.queue) }
         ensures same { KeepsAside aside.old aside.new × IsSamePass pass.old pass.new }
@@ -190,7 +190,7 @@ impl<T: Drop> Numbers<T> {
         watch: &mut W,
     )
         requires numbers { AreNumbers self.old × (self.old.book.name ≡ words_book words.now) × KnowsLeast self.old }
-        requires pass { IsPassFor words.now pass.old × IsSole pass.old.id }
+        requires pass { IsPassOf words.now pass.old × IsSole pass.old.id }
         requires held { IsSomeHeld T.row.coded.code pass.old (MayGo pass.old places.old.items) }
         requires ender { IsEnderOf words.now ender.now }
         ensures numbers { AreNumbers self.new × (self.new.book ≡ self.old.book) × KnowsLeast self.new }
@@ -242,7 +242,7 @@ impl<'a, 'h, 'p, T: Drop, R: Reclaim<T>, W: Watch<T>> LockWork<
     Heard<'h, Pass<'p>, W>,
     bool,
 > for Sweeping<'a, T, R> {
-    ghost may = { λ work numbers heard. IsLockFor work.words.now numbers × IsPassFor work.words.now heard.pass.now
+    ghost may = { λ work numbers heard. IsLockFor work.words.now numbers × IsPassOf work.words.now heard.pass.now
         × IsSole heard.pass.now.id × IsEnderOf work.words.now work.ender.now };
 
     ghost gives = { λ work numbers numbers' heard heard' result. (heard'.pass.ghost_name ≡ heard.pass.ghost_name)

@@ -5,7 +5,7 @@ ghost use Rattle.seize_book.specs.Tokens.{IsSole};
 ghost use Rattle.seize_words.specs.Joined.{words_book};
 ghost use Rattle.seize_parts.specs.Aparts.{KeepsAside, MayDrain};
 ghost use Rattle.seize_parts.specs.Enders.{IsEnderOf};
-ghost use Rattle.seize_calls.specs.Slots.{IsPassFor};
+ghost use Rattle.seize_calls.specs.Slots.{IsPassOf};
 ghost use Rattle.seize_parts.specs.Numbers.{AreSlots};
 ghost use Rattle.seize_parts.specs.Sweeps.{KeepsFree, KeepsHere, KeepsIdle, KeepsOff, KeepsOn};
 
@@ -26,7 +26,7 @@ impl<T: Drop> Numbers<T> {
         pass: &mut Pass,
     )
         requires numbers { AreSlots self.old × (self.old.book.name ≡ words_book words.now) }
-        requires pass { IsPassFor words.now pass.old × IsSole pass.old.id × IsEnderOf words.now ender.now }
+        requires pass { IsPassOf words.now pass.old × IsSole pass.old.id × IsEnderOf words.now ender.now }
         requires queue { MayDrain T.row.coded.code (words_book words.now) aside.old.queue }
         ensures numbers { AreSlots self.new × KeepsHere self.old self.new × KeepsFree self.old self.new }
         ensures on { KeepsOn pass.old pass.new × KeepsOff pass.old pass.new × KeepsIdle pass.old pass.new }
@@ -47,7 +47,7 @@ impl<T: Drop> Numbers<T> {
         pass: &mut Pass,
     )
         requires numbers { AreSlots self.old × (self.old.book.name ≡ words_book words.now) }
-        requires pass { IsPassFor words.now pass.old × IsSole pass.old.id × IsEnderOf words.now ender.now }
+        requires pass { IsPassOf words.now pass.old × IsSole pass.old.id × IsEnderOf words.now ender.now }
         requires queue { MayDrain T.row.coded.code (words_book words.now) aside.old.queue }
         ensures numbers { AreSlots self.new × KeepsHere self.old self.new × KeepsFree self.old self.new }
         ensures on { KeepsOn pass.old pass.new × KeepsOff pass.old pass.new × KeepsIdle pass.old pass.new }

@@ -4,7 +4,7 @@
 ghost use Rattle.std.specs.Prelude.{◌≡◌, ◌<◌, ℕ, None, get_or, length, true};
 ghost use Rattle.seize_book.specs.Saying.{AllSay};
 ghost use Rattle.seize_book.specs.Tokens.{IsSole};
-ghost use Rattle.seize_calls.specs.Slots.{IsPassFor};
+ghost use Rattle.seize_calls.specs.Slots.{IsPassOf};
 ghost use Rattle.seize_words.specs.Joined.{words_book};
 ghost use Rattle.seize_parts.specs.Enders.{IsEnderOf};
 ghost use Rattle.seize_parts.specs.Laws.{HaveContents};
@@ -43,7 +43,7 @@ impl<T: Drop> Numbers<T> {
         pass: &mut Pass,
     ) -> Found<T>
         requires numbers { AreNumbers self.old × IsLockFor words.now self.old }
-        requires pass { IsPassFor words.now pass.old × IsSole pass.old.id }
+        requires pass { IsPassOf words.now pass.old × IsSole pass.old.id }
         requires ender { IsEnderOf words.now ender.now }
         ensures numbers { AreNumbers self.new × (self.new.book.name ≡ words_book words.now) × KnowsLeast self.new }
         ensures rests { ComesToRest pass.old pass.new result }
@@ -60,7 +60,7 @@ impl<T: Drop> Numbers<T> {
     // So it is, but that nothing is said of contents.
     fn rest(&mut self, words: &Words<T>, alloc: Global, pass: &mut Pass) -> Found<T>
         requires numbers { AreNumbers self.old × (self.old.book.name ≡ words_book words.now) }
-        requires pass { IsPassFor words.now pass.old × IsSole pass.old.id }
+        requires pass { IsPassOf words.now pass.old × IsSole pass.old.id }
         ensures numbers { AreNumbers self.new × (self.new.book ≡ self.old.book) }
         ensures rests { ComesToRest pass.old pass.new result }
     {
@@ -83,7 +83,7 @@ impl<T: Drop> Numbers<T> {
     ) -> bool
         requires numbers { AreNumbers self.old × (self.old.book.name ≡ words_book words.now) }
         requires places { (s : ℕ) → get_or places.old.items s None ≡ None }
-        requires pass { IsPassFor words.now pass.old × IsSole pass.old.id }
+        requires pass { IsPassOf words.now pass.old × IsSole pass.old.id }
         ensures numbers { AreNumbers self.new × (self.new.book ≡ self.old.book) × (self.new.slots ≡ self.old.slots) }
         ensures still { pass.new ≡ pass.old }
         ensures left { AreLeft pass.old places.new.items }
@@ -112,7 +112,7 @@ impl<T: Drop> Numbers<T> {
     ) -> bool
         requires numbers { AreNumbers self.old × (self.old.book.name ≡ words_book words.now) × (n < length self.old.slots.items) }
         requires places { AreLeft pass.old places.old.items × (n < length places.old.items) }
-        requires pass { IsPassFor words.now pass.old × IsSole pass.old.id }
+        requires pass { IsPassOf words.now pass.old × IsSole pass.old.id }
         ensures numbers { AreNumbers self.new × (self.new.book ≡ self.old.book) × (self.new.slots ≡ self.old.slots) }
         ensures still { pass.new ≡ pass.old }
         ensures left { AreLeft pass.old places.new.items × (length places.new.items ≡ length places.old.items) }

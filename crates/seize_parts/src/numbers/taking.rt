@@ -1,24 +1,22 @@
 //! How a thread takes a slot, and how it gives one back, where threads share the collector. Each is a work on the numbers; what a slot
 //! attempts then goes to the reclaimer outside their lock.
 ghost use Rattle.std.specs.Prelude.{◌≡◌, IfErr, IfNone, IfOk, IfSome};
-ghost use Rattle.seize_calls.specs.Slots.{IsInactive, IsPassFor, IsSlotOf, its_number};
-ghost use Rattle.seize_words.specs.Joined.{words_book};
+ghost use Rattle.seize_calls.specs.Slots.{IsInactive, IsPassOf, IsSlotOf, its_number};
 ghost use Rattle.seize_machine.specs.Machine.Event.{Give};
 ghost use Rattle.seize_machine.specs.declared.machine.event.Answer.TheVariants.{Done};
-ghost use Rattle.seize_parts.specs.Enders.{IsEnderOf};
 ghost use Rattle.seize_parts.specs.Makes.{GivesNumber, MakesOne, TakesNumber};
 ghost use Rattle.seize_parts.specs.Numbers.{HasGathered, HasTaken, IsLockFor, MayEnd, TakesNone};
 ghost use Rattle.seize_parts.specs.Puts.{PutBy};
 ghost use Rattle.seize_parts.specs.Shelves.{IsShelfFor};
 
-use crate::ender::Ender;
 use crate::ends::Forwards;
 use crate::numbers::{Numbers, Taken};
+use crate::parts::Parts;
 use crate::reclaim::Reclaim;
 use crate::shelf::Shelf;
 use seize_calls::manner::Beside;
 use seize_calls::slot::Slot;
-use seize_cells::{Lock, LockWork};
+use seize_cells::LockWork;
 use seize_table::Refusal;
 use seize_words::book::Pass;
 use seize_words::words::Words;
@@ -35,7 +33,7 @@ struct Registering<'a, T> {
 
 impl<'a, 'p, T: Drop> LockWork<Numbers<T>, Pass<'p>, Result<Taken<T>, Refusal>>
     for Registering<'a, T> {
-    ghost may = { λ work numbers pass. IsLockFor work.words.now numbers × IsPassFor work.words.now pass };
+    ghost may = { λ work numbers pass. IsLockFor work.words.now numbers × IsPassOf work.words.now pass };
 
     ghost gives = { λ work numbers numbers' pass pass' result.
         IfOk result (λ made. HasTaken work.words.now pass pass' made.slot made.begun × IsShelfFor work.words.now made.shelf)
@@ -57,7 +55,7 @@ struct Ending<'a, T> {
 }
 
 impl<'a, 'p, T: Drop> LockWork<Numbers<T>, Pass<'p>, Option<Slot<T>>> for Ending<'a, T> {
-    ghost may = { λ work numbers pass. IsLockFor work.words.now numbers × IsPassFor work.words.now pass
+    ghost may = { λ work numbers pass. IsLockFor work.words.now numbers × IsPassOf work.words.now pass
         × MayEnd work.words.now work.slot };
 
     ghost gives = { λ work numbers numbers' pass pass' result.
@@ -83,27 +81,29 @@ impl<'a, 'p, T: Drop> LockWork<Numbers<T>, Pass<'p>, Option<Slot<T>>> for Ending
 /// `NoMemory` where the allocator refuses.
 #[inline(always)]
 pub fn take_slot<T: Drop, R: Reclaim<T>, W: Wait>(
-    numbers: &Lock<Numbers<T>>,
+    parts: &Parts<T, R>,
     rt: &W,
-    words: &Words<T>,
-    ender: &Ender<T, R>,
     alloc: Global,
     pass: &mut Pass,
 ) -> Result<(Slot<T>, Shelf<T>), Refusal>
-    requires numbers { numbers.now ≡ (words_book words.now).family }
-    requires pass { IsPassFor words.now pass.old }
-    requires ender { IsEnderOf words.now ender.now }
-    ensures slot { IfOk result (λ made. IsSlotOf words.now made.0 × IsInactive made.0 × IsShelfFor words.now made.1) }
+    requires { IsPassOf parts.now.words pass.old }
+    ensures slot { IfOk result (λ made. IsSlotOf parts.now.words made.0 × IsInactive made.0 × IsShelfFor parts.now.words made.1) }
     ensures takes { IfOk result (λ made. TakesNumber (PutBy T.row.coded.code R.puts) (its_number made.0) pass.old pass.new) }
     ensures refused { IfErr result (λ refusal. TakesNone pass.old pass.new refusal) }
 {
+    let words = &parts.words;
     let Taken {
         mut slot,
         begun,
         shelf,
-    } = numbers.with(rt, Registering { words, alloc }, pass)?;
+    } = parts.numbers.with(rt, Registering { words, alloc }, pass)?;
     if begun {
-        slot.resume(words, &mut Forwards::new(ender), pass, &Beside { rt });
+        slot.resume(
+            words,
+            &mut Forwards::new(parts.ender()),
+            pass,
+            &Beside { rt },
+        );
     }
     Ok((slot, shelf))
 }
@@ -114,26 +114,28 @@ pub fn take_slot<T: Drop, R: Reclaim<T>, W: Wait>(
 /// It takes no memory and waits as `take_slot` does; what is reclaimed goes to the reclaimer outside the lock.
 #[inline(always)]
 pub fn end_slot<T: Drop, R: Reclaim<T>, W: Wait>(
-    numbers: &Lock<Numbers<T>>,
+    parts: &Parts<T, R>,
     rt: &W,
-    words: &Words<T>,
-    ender: &Ender<T, R>,
     slot: Slot<T>,
     pass: &mut Pass,
 )
-    requires numbers { numbers.now ≡ (words_book words.now).family }
-    requires pass { IsPassFor words.now pass.old }
-    requires ender { IsEnderOf words.now ender.now }
-    requires slot { MayEnd words.now slot }
+    requires pass { IsPassOf parts.now.words pass.old }
+    requires slot { MayEnd parts.now.words slot }
     ensures gives { GivesNumber (PutBy T.row.coded.code R.puts) (its_number slot) pass.old pass.new }
 {
+    let words = &parts.words;
     let mut slot = slot;
     for _ in rt.forever() {
-        let Some(begun) = numbers.with(rt, Ending { words, slot }, pass) else {
+        let Some(begun) = parts.numbers.with(rt, Ending { words, slot }, pass) else {
             return;
         };
         slot = begun;
-        slot.resume(words, &mut Forwards::new(ender), pass, &Beside { rt });
+        slot.resume(
+            words,
+            &mut Forwards::new(parts.ender()),
+            pass,
+            &Beside { rt },
+        );
     }
     unreachable!()
 }

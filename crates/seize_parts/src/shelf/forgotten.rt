@@ -19,11 +19,13 @@ pub(crate) struct Forgotten {
 }
 
 impl Forgotten {
+    ghost use mathlib.Core.List.{IsPrefix};
+    ghost use Rattle.seize_book.specs.Passes.{IsSamePass, MadeNone};
     ghost use Rattle.seize_parts.specs.Shelves.{IsForgottenOf};
     ghost use Rattle.seize_parts.specs.Reservations.{IsUnit};
 
     /// The unit of one guard.
-    pub(super) fn one(number: usize, unit: Activation, seen: Seen) -> Forgotten
+    pub(crate) fn one(number: usize, unit: Activation, seen: Seen) -> Forgotten
         requires { IsUnit seen.name number unit seen }
         ensures { IsForgottenOf seen.name.family result }
     {
@@ -39,7 +41,8 @@ impl Forgotten {
     /// added, nor one past 2^64 - 1: neither comes here.
     pub(super) fn and(self, one: Forgotten, pass: &mut Pass) -> Forgotten
         requires { IsForgottenOf pass.old.name.family self × IsForgottenOf pass.old.name.family one }
-        ensures { IsForgottenOf pass.old.name.family result }
+        ensures of { IsForgottenOf pass.old.name.family result }
+        ensures none { IsSamePass pass.old pass.new × IsPrefix pass.old.seen pass.new.seen × MadeNone pass.old pass.new }
     {
         if self.number != one.number || one.count != 1 || self.count == u64::MAX {
             return self;

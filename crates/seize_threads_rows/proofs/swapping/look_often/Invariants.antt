@@ -1,5 +1,5 @@
-use Rattle.seize.specs.Collectors.{IsPassOf}
+use Rattle.seize.specs.Collectors.{IsPassOf, its_words}
 use Rattle.seize_threads_rows.proofs.swapping.look_often.Given as goal
 
 abbrev pub invariant-loop : goal.invariant-loop
-invariant-loop g l = IsPassOf l.collector l.pass
+invariant-loop g l = IsPassOf (its_words l.collector) l.pass

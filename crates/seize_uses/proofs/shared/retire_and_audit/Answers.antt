@@ -12,6 +12,6 @@ returns-clause-retired g c =
     let v = unlinked_name c.args.value in let pass = c.laws.new.pass in let there = retired_by (guard_slot c.args.guard.now) v (call_still c.defer_retire.ensures.call c.laws.ensures.none) in (
       there.0,
       there.1,
-      λ k gone. let before = c.laws.ensures.laws.after v k gone in
+      λ k gone. let before = c.laws.ensures.laws.0.after v k gone in
           subst (λ (q : ℕ). (q < k) × ((s : ℕ) → IsActiveAt (moments_seen pass) s q → HasParted (moments_seen pass) s q k)) (sym (before.3 there.0 there.1)) (before.1, before.4),
     )

@@ -3,11 +3,10 @@ use base.Growing.{prefix_trans}
 use mathlib.Core.List.{IsPrefix}
 use Rattle.seize.specs.Blocks.{content}
 use Rattle.seize.specs.Collectors.{seen_by}
-use Rattle.seize.specs.Guards.{core_collector, core_slot}
+use Rattle.seize.specs.Guards.{core_home, core_slot}
 use Rattle.seize.specs.Machine.Event.{Event, ExchangeLink}
 use Rattle.seize.specs.Makes.{Makes, MakesNone, MakesOne}
 use Rattle.seize.specs.declared.collector.Collector.{Collector}
-use Rattle.seize.specs.declared.guard.common.GuardCore.{GuardCore}
 use Rattle.seize.proofs.Facts.{named_says, then_none, won_onwards}
 use Rattle.seize_book.specs.declared.book.pass.Pass.{Pass}
 use Rattle.seize.specs.Answer.{Answer}
@@ -37,7 +36,7 @@ returns-clause-reached g c is =
     let more = then_look c.retire_any.ensures.made c.laws-2.ensures.none in
     let known = prefix_trans from c.laws.new.pass.seen p.seen c.laws.ensures.rule.goes_on c.protect-found.ensures.1.grows in (
       subst (λ (collector : Collector Version Growing). IsPrefix (seen_by collector) c.laws-2.new.pass.seen)
-          (c.collector-collector.ensures ∙ ap (λ (core : GuardCore Version Growing). core_collector core) c.deref.ensures) rule.goes_on,
+          (c.collector-collector.ensures.0 ∙ ap (λ core. core_home core) c.deref.ensures) rule.goes_on,
       won_onwards the_row.coded rule link (GrowsTo (Some version)) (grows_on version) s held won.put (Some (content block)) known made more.1
           (named_says the_row.coded.code (Some block) won.put won.named) (omega (arith, ap (λ (v : Version). v.number) c.in_ok-block.ensures.1)),
     )

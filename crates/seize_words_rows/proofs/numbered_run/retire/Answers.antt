@@ -20,13 +20,12 @@ use Rattle.seize_words_rows.proofs.numbered_run.retire.Goals as goal
 
 pub returns-clause-stands : goal.returns-clause-stands
 returns-clause-stands c =
-    let n = words_book c.args.words.now in let key = c.args.retirer.now in let add = c.add in let lend = c.lend-lent in let value = lend.new.key in let v : ℕ = value_of value in let one = c.begin_retire in let two = c.put in let noted = c.set_note in let push = c.push in
-    let sees = sees_still n c.args.pass.now add.new.pass entered add.ensures.pass c.requires.sees.0 in
-    let first = tells n key one.new.self add.new.pass one.new.pass 1 (0 ∷ []) (λ s. Begin s (Retire v)) entered two_made (begun v) Done one.ensures.noted sees c.requires.sees.1 (begins v) in
+    let n = words_book c.args.words.now in let key = c.args.retirer.now in let pass = c.args.pass.now in let lend = c.lend-lent in let value = lend.new.key in let v : ℕ = value_of value in let one = c.begin_retire in let two = c.put in let noted = c.set_note in let push = c.push in
+    let first = tells n key one.new.self pass one.new.pass 1 (0 ∷ []) (λ s. Begin s (Retire v)) entered two_made (begun v) Done one.ensures.noted c.requires.sees.0 c.requires.sees.1 (begins v) in
     let second = steps n one.new.self two.new.self one.new.pass two.new.pass 1 0 (λ s. Put s) (begun v) (begun v) (put v) Done two.ensures.noted first.0 first.1 (puts v) in
     let told = has_noted _ one.new.value noted.new.self noted.ensures in
     let same = told.1 ∙ same_value value one.new.value one.new.pass one.ensures.value in
-    let said = is_told_on one.new.self two.new.self one.new.pass two.new.pass _ v 0 two.ensures.noted (retired_told key one.new.self add.new.pass one.new.pass v 0 one.ensures.noted) in
+    let said = is_told_on one.new.self two.new.self one.new.pass two.new.pass _ v 0 two.ensures.noted (retired_told key one.new.self pass one.new.pass v 0 one.ensures.noted) in
     let none_yet = nothing_told c.new-values.result two.new.pass c.new-values.ensures.0.1 in
     let none = c.new-values.ensures.0.1 in let held = push.ensures.2 ∙ ap (λ (hs : List (HeldKey Entry)). hs ++ noted.new.self.keys.held) none in
     let its = ap label_of held in let all = its ∙ same in

@@ -1,7 +1,7 @@
 use Rattle.std.proofs.Common.{None, box_value, get_or, sym, ap, subst, ◌∙◌, arith}
 use base.Stored.{Coded}
 use Rattle.seize_book.specs.Tokens.{IsSole}
-use Rattle.seize_calls.specs.Slots.{IsPassFor}
+use Rattle.seize_calls.specs.Slots.{IsPassOf}
 use Rattle.seize.specs.Alones.{IsAlone}
 use Rattle.seize_parts.specs.Enders.{IsEnderOf}
 use Rattle.seize.proofs.Lone.{may_go}
@@ -24,5 +24,5 @@ stir-requires g c = record { stand = λ l less. (get_or c.self.inside.hands.held
 pub shared-requires : goal.shared-requires
 shared-requires g c =
     let a = c.self.invariant in let did = c.clear.ensures in let same = did.grows.0 in
-    let for : IsPassFor c.self.inside.words c.clear.new.pass = (a.knows.for.0 ∙ sym same.0, a.knows.for.1 ∙ sym same.2) in
+    let for : IsPassOf c.self.inside.words c.clear.new.pass = (a.knows.for.0 ∙ sym same.0, a.knows.for.1 ∙ sym same.2) in
     (omega arith, (omega arith, ((for, subst IsSole (sym same.1) a.knows.sole), ((did.numbers.0, ap (λ b. b.name) did.numbers.1 ∙ a.numbered.1, did.numbers.2), (a.ends, (c.stir.ensures.shared, λ s place is. absurd (let none = sym (did.places s) ∙ is in cc)))))))

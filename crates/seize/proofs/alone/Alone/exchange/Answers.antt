@@ -7,7 +7,9 @@ use Rattle.seize_model.specs.Waiting.State.{ModelState, has_guard, model_slot}
 use Rattle.seize_book.specs.Entry.{Entry}
 use Rattle.seize_book.specs.Homesteads.{state_seen}
 use Rattle.seize_book.specs.Tokens.{Name}
+use Rattle.seize_book.specs.declared.book.sizes.Sizes.{Sizes}
 use Rattle.seize_words.specs.Joined.{words_book}
+use Rattle.seize_words.specs.declared.blocks.Blocks.{Blocks}
 use Rattle.seize_alone.specs.Holding.{Holds}
 use Rattle.seize_alone.proofs.Singles.{link_held, swaps_held}
 use Rattle.seize.specs.Alones.{View}
@@ -92,6 +94,16 @@ returns-clause-holds g c =
     let less : link < length st.links = subst (λ (v : View g.row.T.Denot). link < length v.state.links) c.self.view_is
     (subst (λ (m : ℕ). link < m) (ap (λ (v : View g.row.T.Denot). v.links) (sym c.self.view_is) ∙ sym c.self.invariant.linked) c.requires.range) in
     ap (λ (x : ModelState g.row.T.Denot ℕ). model_link x link) (returns-clause-state g c) ∙ get_or-set_same st.links link new None less
+
+pub returns-clause-same : goal.returns-clause-same
+returns-clause-same g c =
+    let words = c.exchange_at-old.ensures.words in let is = c.self.view_is in let book = ap (λ (b : Blocks g.row.T.Denot). b.book.name) words.0 in (
+      book ∙ ap (λ (v : View g.row.T.Denot). v.book) is,
+      words.1 ∙ ap (λ (v : View g.row.T.Denot). v.size) is,
+      words.4 ∙ ap (λ (v : View g.row.T.Denot). v.id) is,
+      ap (λ (n : Name). length n.links) book ∙ ap (λ (v : View g.row.T.Denot). v.links) is,
+      ap (λ (s : Sizes). s.most) words.3 ∙ ap (λ (v : View g.row.T.Denot). v.most) is,
+    )
 
 pub returns-clause-grows : goal.returns-clause-grows
 returns-clause-grows g c = subst (λ (x : List Entry). IsPrefix x c.exchange_at-old.new.pass.seen) (ap (λ (v : View g.row.T.Denot). v.seen) c.self.view_is) (made_grows c.exchange_at-old.ensures.makes.2)

@@ -15,6 +15,6 @@ loop-given-preserved g c =
     ] in
     record {
       goes = goes once.result refl;
-      same = (let is = once.ensures.same in let was = c.loop-given.invariant.same in (is.0 ∙ was.0, is.1 ∙ was.1, is.2 ∙ was.2, is.3 ∙ was.3, is.4 ∙ was.4));
+      same = (let is = once.ensures.same in let was = c.loop-given.invariant.same in (is.0 ∙ was.0, is.1 ∙ was.1, is.2 ∙ was.2, is.3 ∙ was.3, is.4 ∙ was.4, is.5 ∙ was.5));
       grows = prefix_trans c.args.self.now.seen c.loop-given.self.seen once.new.self.seen c.loop-given.invariant.grows once.ensures.grows;
     }

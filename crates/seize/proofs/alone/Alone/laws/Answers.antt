@@ -20,7 +20,7 @@ invariant_of-self g c =
 pub returns-clause-same : goal.returns-clause-same
 returns-clause-same g c =
     let v = c.self.inside in let n = words_book v.words in
-    (λ j. record { book = n; size = v.words.size; id = v.id; links = length n.links; state = v.hands.state; held = v.hands.held; seen = c.slots.ensures.0.alone c.self.invariant.knows.sole j }) ∙ c.self.view_is
+    (λ j. record { book = n; size = v.words.size; most = v.words.sizes.most; id = v.words.id; links = length n.links; state = v.hands.state; held = v.hands.held; seen = c.slots.ensures.0.alone c.self.invariant.knows.sole j }) ∙ c.self.view_is
 
 pub returns-clause-listed : goal.returns-clause-listed
 returns-clause-listed g c =

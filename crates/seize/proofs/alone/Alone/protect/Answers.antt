@@ -35,8 +35,8 @@ sight-requires g c =
     let to = subst (λ o. IfSome o (λ found. (found.0 ≡ link_word held) × (found.1.glimpse.value ≡ held) × IsFoundAs held (g.row.T.coded.code found.1.value.now))) c.in-Some.is told.1 in
     subst IsLentWith (sym (c.again.ensures.1 ∙ to.1 ∙ to.2.1)) (is_lent to.2.0 (g.row.T.coded.code c.in-Some.found.value.now) to.2.2)
 
-pub of-requires : goal.of-requires
-of-requires g c =
+pub show-requires : goal.show-requires
+show-requires g c =
     let link = c.args.link in let inside = c.self.inside in let words = inside.words in let less = subst (λ (m : ℕ). link < m) (ap (λ (v : View g.row.T.Denot). v.links) (sym c.self.view_is)) c.requires.range in
     let held = get_or inside.hands.held link None in let s = c.self.invariant.stand link (subst (λ (n : Name). link < length n.links) (sym words.linked) less) in
     let told = c.peek_link.ensures.held held s.0 in let st = inside.hands.state in let view = ap (λ (v : View g.row.T.Denot). model_link v.state link) c.self.view_is in
@@ -49,7 +49,7 @@ returns-clause-done g c =
     let held = get_or inside.hands.held link None in let s = c.self.invariant.stand link (subst (λ (n : Name). link < length n.links) (sym words.linked) less) in
     let told = c.peek_link.ensures.held held s.0 in let st = inside.hands.state in let view = ap (λ (v : View g.row.T.Denot). model_link v.state link) c.self.view_is in
     let to = subst (λ o. IfSome o (λ found. (found.0 ≡ link_word held) × (found.1.glimpse.value ≡ held) × IsFoundAs held (g.row.T.coded.code found.1.value.now))) c.in-Some.is told.1 in
-    (c.in_ok-guarded.ensures.it.0, ap Some c.of.ensures.1 ∙ sym (one_value g.row.T.coded held (model_link st link) s.1 to.2.0 c.in-Some.found.value.now to.2.1 to.2.2) ∙ view)
+    (c.in_ok-guarded.ensures.it.0, ap Some c.show.ensures.1 ∙ sym (one_value g.row.T.coded held (model_link st link) s.1 to.2.0 c.in-Some.found.value.now to.2.1 to.2.2) ∙ view)
 
 pub returns-in_default-clause-which : goal.returns-in_default-clause-which
 returns-in_default-clause-which g c =
@@ -64,4 +64,4 @@ returns-clause-which g c =
     let held = get_or inside.hands.held link None in let s = c.self.invariant.stand link (subst (λ (n : Name). link < length n.links) (sym words.linked) less) in
     let told = c.peek_link.ensures.held held s.0 in let view = ap (λ (v : View g.row.T.Denot). name_at v link) c.self.view_is in
     let to = subst (λ o. IfSome o (λ found. (found.0 ≡ link_word held) × (found.1.glimpse.value ≡ held) × IsFoundAs held (g.row.T.coded.code found.1.value.now))) c.in-Some.is told.1 in
-    c.of.ensures.0 ∙ ap (λ (x : Glimpse). x.value) c.again.ensures.0 ∙ to.1 ∙ view
+    c.show.ensures.0 ∙ ap (λ (x : Glimpse). x.value) c.again.ensures.0 ∙ to.1 ∙ view

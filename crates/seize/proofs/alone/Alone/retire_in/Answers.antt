@@ -9,7 +9,7 @@ use Rattle.seize_calls.specs.Slots.{its_value}
 use Rattle.seize_alone.proofs.Outlines.{retire_links, retire_outline}
 use Rattle.seize_alone.proofs.Sizes.{size_stays}
 use Rattle.seize.specs.Alones.{View}
-use Rattle.seize.specs.Links.{taken_content}
+use Rattle.seize.specs.Takens.{taken_content}
 use Rattle.seize_parts.specs.Enders.{IsEnderOf}
 use Rattle.seize_parts.specs.Told.{told_of}
 use Rattle.seize_parts.proofs.Lying.{held_is, place_there}

@@ -16,7 +16,7 @@ returns-clause-makes g c =
 
 pub returns-clause-words : goal.returns-clause-words
 returns-clause-words g c =
-    let stirred = c.stir_at.ensures.same in let rested = c.rest_at.ensures.same in (refl, refl, (rested.0 ∙ stirred.0, λ l o other stands. rested.1 l o other (stirred.1 l o other stands)))
+    let stirred = c.stir_at.ensures.same in let rested = c.rest_at.ensures.same in (refl, refl, (rested.0 ∙ stirred.0, λ l o other stands. rested.1 l o other (stirred.1 l o other stands)), refl, refl)
 
 pub returns-clause-stands : goal.returns-clause-stands
 returns-clause-stands g c = subst (λ (p : Pass). StandsAt c.rest_at.new.self c.args.link (link_at (state_seen p) c.args.link)) (sym c.rest_at.ensures.pass) c.rest_at.ensures.stands

@@ -9,7 +9,7 @@ use Rattle.seize_book.specs.declared.book.pass.Pass.{Pass}
 use Rattle.seize_book.specs.declared.book.seen.Seen.{Seen}
 use Rattle.seize_words.specs.Joined.{words_book}
 use Rattle.seize_words.specs.Named.{link_count}
-use Rattle.seize_calls.specs.Slots.{IsPassFor}
+use Rattle.seize_calls.specs.Slots.{IsPassOf}
 use Rattle.seize_alone.specs.Holding.{Holds}
 use Rattle.seize.specs.Collectors.{its_book, seen_by}
 use Rattle.seize_parts.specs.Enders.{IsEnderOf}
@@ -33,7 +33,7 @@ first-hands-requires g c =
 pub shared-requires : goal.shared-requires
 shared-requires g c =
     let parts = c.into_parts-words.ensures in let comes = c.come_to_rest-found.ensures.rests in let pass = c.come_to_rest-found.new.pass in
-    let for : IsPassFor c.into_parts-words.result.0 pass = (parts.pass.0.0 ∙ sym comes.same.0, parts.pass.0.1 ∙ sym comes.same.2) in (
+    let for : IsPassOf c.into_parts-words.result.0 pass = (parts.pass.0.0 ∙ sym comes.same.0, parts.pass.0.1 ∙ sym comes.same.2) in (
       omega arith,
       (
         omega arith,
@@ -75,12 +75,13 @@ returns-clause-made g c =
     let own : self.porter.name ≡ words_book words = self.lends.0 ∙ sym parts.words.0 in (
       parts.words.0,
       parts.words.1,
-      parts.id,
+      parts.words.4,
       ap (λ (n : Name). length n.links) parts.words.0,
       first.1 ∙ comes.same.2 ∙ sym parts.pass.0.1,
-      first.2 ∙ ap (λ (n : Name). length n.links) (comes.same.0 ∙ sym parts.pass.0.0 ∙ parts.words.0),
+      first.2 ∙ ap (λ (n : Name). length n.links) (comes.same.0 ∙ sym parts.pass.0.0),
       subst (λ (t : Name × List Entry). GoesOnTo t.0 (seen_by self) t.1) (λ j. (own j, (sym c.rest.ensures.pass j).seen)) (goes_then shut.goes_on (subst (λ (n : Name). GoesOnTo n had.seen pass.seen) shut.book.0 comes.goes_on)),
       subst (λ (t : Name × List Entry). mine (start t.0) 0 t.1 ≡ mine (start t.0) 0 (seen_by self)) (λ j. (self.lends.0 j, sym (ap (λ (p : Pass). p.seen) c.rest.ensures.pass ∙ comes.still) j)) shut.none_made,
+      parts.words.3,
     )
 
 pub returns-then-not-all-clause-back : goal.returns-then-not-all-clause-back
@@ -89,7 +90,7 @@ returns-then-not-all-clause-back g c =
     let own : self.porter.name ≡ name = self.lends.0 in let had_name : had.name ≡ name = shut.book.0 ∙ own in let same = c.shared.ensures.same in
     let seen : seen_by c.shared.result ≡ had.seen = same.3 ∙ comes.still in let book : c.come_to_rest-found.new.pass.name ≡ its_book c.shared.result = comes.same.0 ∙ had_name ∙ sym (same.0 ∙ parts.words.0) in
     record {
-      same = (same.0 ∙ parts.words.0, same.1 ∙ parts.words.1, same.2 ∙ parts.id);
+      same = (same.0 ∙ parts.words.0, same.1 ∙ parts.words.1, same.2 ∙ parts.words.4, same.4 ∙ parts.words.3);
       goes_on = subst (λ (t : Name × List Entry). GoesOnTo t.0 (seen_by self) t.1) (λ j. (own j, sym seen j)) shut.goes_on;
       nothing = subst (λ (t : Name × List Entry). mine (start t.0) 0 t.1 ≡ mine (start t.0) 0 (seen_by self)) (λ j. (own j, sym seen j)) shut.none_made;
       in_use = λ unused. comes.kept c.if-not-all.true (λ s. (λ j. (slot_at (after (start (book j)) (sym same.3 j)) s).used) ∙ unused s);

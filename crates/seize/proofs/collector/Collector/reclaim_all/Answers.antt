@@ -15,9 +15,6 @@ pub invariant_of-self : goal.invariant_of-self
 invariant_of-self g c =
     let stay = c.stay-all.ensures in let leave = c.leave_home.ensures in let self = c.args.self.now in record {
       lends = (leave.0.0 ∙ sym stay.again.0.0 ∙ stay.same.0 ∙ stay.shut.book.0 ∙ self.lends.0, leave.0.1 ∙ sym stay.again.0.1 ∙ stay.same.2 ∙ stay.shut.book.1 ∙ self.lends.1, leave.2);
-      shared = self.shared;
-      numbered = ap (λ r. r.now) stay.gives.0 ∙ self.numbered;
-      ends = self.ends;
     }
 
 pub returns-clause-reclaims : goal.returns-clause-reclaims
@@ -27,7 +24,7 @@ returns-clause-reclaims g c =
     let back_name : back.name ≡ name = stay.same.0 ∙ lent_name in let back_seen : back.seen ≡ seen' = sym (leave.1 ∙ stay.again.1) in
     let added = sweeps.adds stay.shut.alone in
     record {
-      same = (refl, refl, refl);
+      same = (refl, refl, refl, refl);
       at_call = lent.seen;
       goes_on = subst (λ (n : Name). GoesOnTo n self.porter.seen lent.seen) own_name stay.shut.goes_on;
       nothing = subst (λ (n : Name). mine (start n) 0 lent.seen ≡ mine (start n) 0 self.porter.seen) own_name stay.shut.none_made;

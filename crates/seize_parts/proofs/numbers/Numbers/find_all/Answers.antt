@@ -2,7 +2,7 @@ use Rattle.std.proofs.Common.{◌≡◌, ℕ, true, length, sym, ap, subst, ◌�
 use native.Mathlib.Decide.{ℕ_discrete}
 use Rattle.seize_book.specs.Tokens.{IsSole}
 use Rattle.seize_book.specs.declared.book.pass.Pass.{Pass}
-use Rattle.seize_calls.specs.Slots.{IsPassFor}
+use Rattle.seize_calls.specs.Slots.{IsPassOf}
 use Rattle.seize_parts.specs.Resting.{AreLeft, LiesSomewhere}
 use Rattle.seize_parts.proofs.numbers.Numbers.find_all.Goals as goal
 use Rattle.seize_parts.proofs.numbers.Numbers.find_all.Goals.{then-not-find_at, else-not-find_at}
@@ -14,7 +14,7 @@ find_at-requires g c =
       omega arith,
       (
         (i.0, ap (λ seen. seen.name) i.1 ∙ c.requires.numbers.1, omega (arith, less, many, long)),
-        ((subst (λ (q : Pass). AreLeft q places) same i.4, omega (arith, less, many, room)), (subst (IsPassFor c.args.words.now) same c.requires.pass.0, subst (λ (q : Pass). IsSole q.id) same c.requires.pass.1)),
+        ((subst (λ (q : Pass). AreLeft q places) same i.4, omega (arith, less, many, room)), (subst (IsPassOf c.args.words.now) same c.requires.pass.0, subst (λ (q : Pass). IsSole q.id) same c.requires.pass.1)),
       ),
     )
 

@@ -10,7 +10,7 @@ use Rattle.seize_book.specs.Values.{values_of}
 use Rattle.seize_book.specs.declared.book.pass.Pass.{Pass}
 use Rattle.seize_book.specs.Others.{use_flags}
 use Rattle.seize_calls.specs.Batches.{keys_in}
-use Rattle.seize_calls.specs.Slots.{IsOfList, IsPassFor, its_number}
+use Rattle.seize_calls.specs.Slots.{IsOfList, IsPassOf, its_number}
 use Rattle.seize_calls.specs.declared.slot.Slot.{Slot}
 use Rattle.seize_calls.proofs.Current.{looked_active, shown}
 use Rattle.seize_alone.specs.Events.{MakesAlone}
@@ -46,7 +46,7 @@ give-requires g c =
       (
         (slots_kept looked_self are _ refl refl refl refl kept (length-set items n c.take.new.self) refl refl, numbers.1),
         (
-          subst (λ (p : Pass). IsPassFor words p) (sym same2) for1,
+          subst (λ (p : Pass). IsPassOf words p) (sym same2) for1,
           (
             (c.look-in-Some.ensures.of.0, looked_active _ _ _ _ looked.0.does ∙ at.inactive),
             may_end c.look.new.self slot' p2 (subst (λ (p : Pass). IsLegalList (start p.name) p.seen) (sym same2) legal1) (subst (λ (p : Pass). are_distinct (linked_values p.name.links) ≡ true) (sym same2) distinct1)

@@ -17,7 +17,7 @@ pub loop-init : goal.loop-init
 loop-init g c = (c.requires.pass, c.requires.slot, refl, λ q gives. gives)
 
 pub with-requires : goal.with-requires
-with-requires g c = let led = c.loop.invariant in λ numbers keeps. (keeps.0 ∙ c.requires.numbers, led.0, led.1)
+with-requires g c = let led = c.loop.invariant in λ numbers keeps. (keeps.0 ∙ c.args.parts.now.numbered, led.0, led.1)
 
 -- the number went back, once the slot gathered as often
 pub returns-in_default : goal.returns-in_default
@@ -28,17 +28,17 @@ returns-in_default g c =
 
 pub resume-requires : goal.resume-requires
 resume-requires g c =
-    let led = c.loop.invariant in let words = c.args.words.now in let gathered = c.in-Some-with.ensures.gives.1 in let gathers = gathered.gathers in (
+    let led = c.loop.invariant in let words = c.args.parts.now.words in let gathered = c.in-Some-with.ensures.gives.1 in let gathers = gathered.gathers in (
       omega arith,
       (
         (gathered.its, still_for words c.loop.pass c.with.new.with led.0 (same_twice c.loop.pass gathers.ready c.with.new.with gathers.prepares.same gathers.does.0), tt),
-        serves_new g.row.T.coded.code g.R.Puts.puts (words_book words) c.args.ender.now c.new.result.ender.now c.new.result.ends.had c.new.ensures c.requires.ender,
+        serves_new g.row.T.coded.code g.R.Puts.puts (words_book words) c.ender.result.now c.new.result.ender.now c.new.result.ends.had c.new.ensures c.ender.ensures,
       ),
     )
 
 pub loop-preserved : goal.loop-preserved
 loop-preserved g c =
-    let led = c.loop.invariant in let words = c.args.words.now in let gathered = c.in-Some-with.ensures.gives.1 in let resumed = c.resume.ensures in
+    let led = c.loop.invariant in let words = c.args.parts.now.words in let gathered = c.in-Some-with.ensures.gives.1 in let resumed = c.resume.ensures in
     let slot = c.in-Some-with.begun in let slot' = c.resume.new.self in let pass' = c.resume.new.pass in let had' = c.resume.new.reclaimer.ends.had in let IsPut = PutBy g.row.T.coded.code g.R.Puts.puts in
     let whole = slot_gathers_whole IsPut pass' (puts_by g.row.T.coded.code g.R.Puts.puts pass') words c.loop.slot c.loop.pass slot c.with.new.with slot' resumed.of.0.0 led.0 c.new.result.ends.had had'
     (put_so g.row.T.coded.code g.R.Puts.puts pass' had' resumed.serves.1) gathered.gathers resumed.resumes in (

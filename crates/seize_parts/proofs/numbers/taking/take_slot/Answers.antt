@@ -15,7 +15,7 @@ use Rattle.seize_parts.proofs.numbers.taking.take_slot.Goals as goal
 
 pub returns-clause-slot : goal.returns-clause-slot
 returns-clause-slot g c =
-    let words = c.args.words.now in let ok = c.in_ok-slot in
+    let words = c.args.parts.now.words in let ok = c.in_ok-slot in
     let taken = ok.ensures.gives.0.0 in
     let now : IsSlotOf words c.if-begun.slot × IsInactive c.if-begun.slot = elim c.if-begun.branch [
       | then-begun w ↦ subst (λ (s : Slot g.row.T.Denot). IsSlotOf words s × IsInactive s) (sym w.slot-is) (w.resume.ensures.of.0, w.resume.ensures.of.1 ∙ taken.inactive)
@@ -25,12 +25,12 @@ returns-clause-slot g c =
 
 pub returns-clause-takes : goal.returns-clause-takes
 returns-clause-takes g c =
-    let words = c.args.words.now in let ok = c.in_ok-slot in let p = c.args.pass.now in let IsPut = PutBy g.row.T.coded.code g.R.Puts.puts in
+    let words = c.args.parts.now.words in let ok = c.in_ok-slot in let p = c.args.pass.now in let IsPut = PutBy g.row.T.coded.code g.R.Puts.puts in
     let taken = ok.ensures.gives.0.0 in
     elim c.if-begun.branch [
       | then-begun w ↦
           let took = taken.took w.if-begun.true in let slot' = w.resume.new.self in let pass' = w.resume.new.pass in let had' = w.resume.new.reclaimer.ends.had in
-          let whole = slot_takes_whole IsPut pass' (puts_by g.row.T.coded.code g.R.Puts.puts pass') words took.0 p ok.field-0.slot c.with.new.with slot' w.resume.ensures.of.0.0 c.requires.pass w.new.result.ends.had had'
+          let whole = slot_takes_whole IsPut pass' (puts_by g.row.T.coded.code g.R.Puts.puts pass') words took.0 p ok.field-0.slot c.with.new.with slot' w.resume.ensures.of.0.0 c.requires w.new.result.ends.had had'
           (put_so g.row.T.coded.code g.R.Puts.puts pass' had' w.resume.ensures.serves.1) took.3 w.resume.ensures.resumes in
           subst (λ (t : Slot g.row.T.Denot × Pass). TakesNumber IsPut (its_number t.0) p t.1) (λ j. (sym w.slot-is j, sym w.pass-is j))
           (inr (subst (λ (k : ℕ). MakesWhole IsPut k (Take k) p pass') (took.2 ∙ sym w.resume.ensures.resumes.same.0) whole))

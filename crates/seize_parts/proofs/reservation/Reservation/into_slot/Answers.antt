@@ -3,7 +3,7 @@ use Rattle.seize_book.specs.Books.{Learns}
 use Rattle.seize_book.specs.Tokens.{IsSole}
 use Rattle.seize_book.specs.declared.book.pass.Pass.{Pass}
 use Rattle.seize_calls.specs.Aparts.{without_puts}
-use Rattle.seize_calls.specs.Slots.{IsPassFor, its_number}
+use Rattle.seize_calls.specs.Slots.{IsPassOf, its_number}
 use Rattle.seize_words.specs.Joined.{words_book}
 use Rattle.seize_words.specs.declared.activation.Activation.{Activation}
 use Rattle.seize_parts.specs.Shelves.{IsForgottenOf}
@@ -31,7 +31,7 @@ leave_into-requires g c =
     let words = c.args.words.now in let r = c.args.self in let is = c.requires.of.0 in let p0 = c.args.pass.now in let p1 = c.learn.new.self in let p2 = c.current.new.pass in let p3 = c.head-head.new.pass in let a = c.in_ok-number.field-0 in
     let learns : Learns p0 a.seen p1 = subst (λ (p : Pass). Learns p a.seen p1) c.agree-2.ensures.0 c.learn.ensures in let prepares = c.head-head.ensures.pass in let current = c.current.ensures in let slot' = c.current.new.self in
     let sole1 : IsSole p1.id = still_sole p0 p1 learns.0 c.requires.pass.1 in let led : IsLedBy 0 p1 p2 = looks r.slot p1 slot' p2 sole1 0 current.looks in
-    let for2 : IsPassFor words p2 = still_for words p1 p2 (still_for words p0 p1 c.requires.pass.0 learns.0) led.same in
+    let for2 : IsPassOf words p2 = still_for words p1 p2 (still_for words p0 p1 c.requires.pass.0 learns.0) led.same in
     let some : 0 < r.guards = omega (arith, c.if-guards-eq0.false) in let whole = c.join.new.self in let joined : whole.units ≡ r.rest.units + a.units.units = ap (λ (u : Activation). u.units) c.join.ensures in (
       omega arith,
       (
@@ -46,7 +46,7 @@ returns-clause-led g c =
     let a = c.in_ok-number.field-0 in let learns : Learns p0 a.seen p1 = subst (λ (p : Pass). Learns p a.seen p1) c.agree-2.ensures.0 c.learn.ensures in let prepares = c.head-head.ensures.pass in let current = c.current.ensures in
     let slot' = c.current.new.self in let leave = c.leave_into.ensures in let sole = c.requires.pass.1 in let sole1 : IsSole p1.id = still_sole p0 p1 learns.0 sole in
     let led : IsLedBy s p1 p2 = looks slot p1 slot' p2 sole1 s current.looks in let sole2 : IsSole p2.id = still_sole p1 p2 led.same sole1 in
-    let for3 : IsPassFor words p3 = still_for words p2 p3 (still_for words p1 p2 (still_for words p0 p1 c.requires.pass.0 learns.0) led.same) prepares.same in
+    let for3 : IsPassOf words p3 = still_for words p2 p3 (still_for words p1 p2 (still_for words p0 p1 c.requires.pass.0 learns.0) led.same) prepares.same in
     led_then s p0 p1 p4 (led_none s p0 p1 learns.0 (learns.3 sole))
     (led_then s p1 p2 p4 led
     (led_then s p2 p3 p4 (led_prepared slot' p2 p3 prepares sole2 s)

@@ -1,4 +1,5 @@
 use Rattle.std.proofs.Common.{List, subst, ◌==◌, not, [], sym, refl, ◌∙◌, ap}
+use Rattle.seize_book.proofs.Bounds.{size_itself}
 use Rattle.seize_book.proofs.Facts.{equal}
 use Rattle.seize_machine.specs.Machine.Event.{AddCount}
 use Rattle.seize_words.specs.Atomic.{plus}
@@ -25,6 +26,7 @@ add-old-requires c =
       book.1,
       c.join.ensures.0 ∙ book.0,
       joined_may count.word key values.keys.held c.join.new.self.held pass (plus c.args.won) (λ s. AddCount s) (λ v. not (plus c.args.won v == 0)) book.1 count.count c.join.ensures.2 may,
+      λ v log. size_itself pass.size,
     )
 
 pub invariant_of-values : goal.invariant_of-values

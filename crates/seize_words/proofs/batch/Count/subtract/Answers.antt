@@ -1,4 +1,5 @@
 use Rattle.std.proofs.Common.{ℕ, ◌==◌, Bool, if◌then◌else◌, List, [], refl, sym, ◌∙◌, ap, subst, append-nil}
+use Rattle.seize_book.proofs.Bounds.{size_itself}
 use Rattle.seize_book.proofs.Facts.{equal}
 use Rattle.seize_machine.specs.Machine.Event.{SubCount}
 use Rattle.seize_words.specs.Atomic.{minus}
@@ -24,6 +25,7 @@ subtract-old-requires c =
       book.0,
       joined_may count.word key [] held pass (minus 1) (λ s. SubCount s) (λ v. minus 1 v == 0) book.1 count.count (sym (append-nil held))
           (may_subtract_count pass.name (home count) pass.id pass.size pass.seen held key.one walks),
+      λ v log. size_itself pass.size,
     )
 
 pub invariant_of-values : goal.invariant_of-values

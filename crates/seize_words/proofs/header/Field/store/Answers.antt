@@ -18,6 +18,7 @@ replace-requires c =
       book.0,
       subst (λ (w : Site). MayStep w pass.id pass.seen held [] [] (λ v. c.args.value) (λ v log. uses_it pass.name f pass.id s c.args.value) (λ v. false)) (sym (is_at_field field.word pass.name book.1 field.field))
           (may_store pass.name f pass.id c.args.value pass.seen held key.one stores),
+      λ v log. tt,
     )
 
 pub returns-clause-uses : goal.returns-clause-uses

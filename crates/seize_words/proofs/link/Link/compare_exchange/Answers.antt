@@ -13,6 +13,7 @@ use Rattle.seize_words.specs.Links.{IsNewIn, at_link}
 use Rattle.seize_words.specs.Stepping.{MayStepFor}
 use Rattle.seize_book.specs.Tokens.{Name, start}
 use Rattle.seize_words.specs.Words.{Site}
+use Rattle.seize_book.proofs.Bounds.{size_itself}
 use Rattle.seize_book.proofs.Facts.{equal, unequal}
 use Rattle.seize_words.proofs.Exchanged.{came_out, held_is, is_at, is_out, knows_all, link_kept, stayed, still_may, still_one, taken}
 use Rattle.seize_words.proofs.Exchanges.{compare_finds, hit, is_current, may_compare_link, missed}
@@ -39,6 +40,7 @@ exchange_in-requires g c =
         c.requires.new.0 ∙ in_.book.0,
         c.requires.rule.0,
         subst (steps seen) site (subst (λ (k : ℕ). steps k (at_link pass.name l)) is may),
+        λ v log. size_itself pass.size,
       ),
       subst (founds seen) site (subst (λ (k : ℕ). founds k (at_link pass.name l)) is (λ v t log found e w at. finds v t log found e w at)),
     )

@@ -12,6 +12,7 @@ use Rattle.seize_words.specs.Stepping.{MayStep}
 use Rattle.seize_book.specs.Tokens.{Name, start}
 use Rattle.seize_book.specs.declared.book.keys.Keys.{Keys}
 use Rattle.seize_book.specs.declared.book.pass.Pass.{Pass}
+use Rattle.seize_book.proofs.Bounds.{size_itself}
 use Rattle.seize_words.proofs.Exchanged.{is_at, read_later, taken}
 use Rattle.seize_words.proofs.Exchanges.{may_read_link, read_finds}
 use Rattle.seize_words.proofs.link.Link.see.Goals as goal
@@ -27,6 +28,7 @@ see_in-requires c =
         c.empty-keys.ensures.0,
         subst (λ (t : Site × List (HeldKey Entry)). MayStep t.0 pass.id pass.seen t.1 (a.life ∷ []) [] (λ v. v) (λ v log. Made (record { pass = pass.id; size = pass.size; event = ReadLink a.slot t.0.number; life = 0; kepts = [] })) (λ v. false))
             (λ j. (sym (c.shared.ensures ∙ is_at (site_in link.word) pass.name in_.book.0 link.link) j, sym c.empty-keys.ensures.1 j)) may,
+        λ v log. size_itself pass.size,
       ),
       subst (λ (t : Site × (Pass × List (HeldKey Entry))). FindsFor t.0 t.1.0 t.1.1 a.life (entries t.1.0 0 (λ v log. ReadLink a.slot t.0.number)) (λ v. false))
           (λ j. (sym (c.shared.ensures ∙ is_at (site_in link.word) pass.name in_.book.0 link.link) j, (sym c.empty-keys.ensures.2 j, sym c.empty-keys.ensures.1 j))) (λ v t log found e w is. finds v t log found w is),

@@ -9,6 +9,7 @@ use Rattle.seize_words.specs.Links.{IsNewIn}
 use Rattle.seize_words.specs.Stepping.{MayStepFor}
 use Rattle.seize_book.specs.Tokens.{Name}
 use Rattle.seize_words.specs.Words.{Site}
+use Rattle.seize_book.proofs.Bounds.{size_itself}
 use Rattle.seize_words.proofs.Exchanged.{came_out, is_at, is_out, knows_all, still_one, taken}
 use Rattle.seize_words.proofs.Exchanges.{may_swap_link}
 use Rattle.seize_words.proofs.link.Link.swap.Goals as goal
@@ -23,6 +24,7 @@ swap_in-requires c =
       c.requires.rule.0,
       subst (λ (t : Site). MayStepFor c.args.permit.now.codes [] t pass.id pass.seen held (a.life ∷ []) [] (λ v. c.args.new) (λ v log. Made (record { pass = pass.id; size = pass.size; event = ExchangeLink a.slot t.number (Swap (value_held value)); life = 0; kepts = [] })) (λ v. true))
           (sym (c.shared.ensures ∙ is_at (site_in link.word) pass.name in_.book.0 link.link)) may,
+      λ v log. size_itself pass.size,
     )
 
 pub returns : goal.returns

@@ -11,6 +11,7 @@ use Rattle.seize_book.specs.Tokens.{Name, start}
 use Rattle.seize_words.specs.Words.{Site}
 use Rattle.seize_book.specs.declared.book.keys.Keys.{Keys}
 use Rattle.seize_book.specs.declared.book.pass.Pass.{Pass}
+use Rattle.seize_book.proofs.Bounds.{size_itself}
 use Rattle.seize_book.proofs.Facts.{equal}
 use Rattle.seize_words.proofs.Heads.{at_head, may_enter}
 use Rattle.seize_words.proofs.Stepped.{activation_is, is_at_head, noted_by}
@@ -26,6 +27,7 @@ swap-requires c =
       book.0,
       subst (λ (w : Site). MayStep w pass.id pass.seen held [] lives (λ v. 1) (λ v log. Made (record { pass = pass.id; size = pass.size; event = Enter s; life = next; kepts = [] })) (λ v. false))
           (sym (is_at_head head.word pass.name book.1 head.head)) (may_enter pass.name m pass.id pass.size next pass.seen held key.one idle off (sym book.2) lives),
+      λ v log. size_itself pass.size,
     )
 
 -- what the step tells, said of the key and of the activation as they are in the end

@@ -1,4 +1,5 @@
 use Rattle.std.proofs.Common.{◌≡◌, ◌+◌, false, List, [], ◌∷◌, ◌++◌, sym, subst, refl}
+use Rattle.seize_book.proofs.Bounds.{size_itself}
 use Rattle.seize_book.proofs.Facts.{equal}
 use Rattle.seize_machine.specs.Machine.Event.{Insert}
 use Rattle.seize_words.specs.Atomic.{TakesStep, after_exchange, entries}
@@ -22,6 +23,7 @@ exchange-requires c =
       book.0,
       subst (λ (w : Site). MayStep w pass.id pass.seen held [] [] (after_exchange c.args.seen (c.args.block + 2)) (λ v log. Made (record { pass = pass.id; size = pass.size; event = Insert (key_of held) (slot head) (found_end c.args.seen v); life = 0; kepts = [] })) (λ v. false))
           (sym (is_at_head head.word pass.name book.1 head.head)) (may_insert pass.name (slot head) pass.id pass.size c.args.seen c.args.block pass.seen held key.one tries.0 tries.1),
+      λ v log. size_itself pass.size,
     )
 
 pub returns-clause-noted : goal.returns-clause-noted

@@ -1,4 +1,5 @@
 use Rattle.std.proofs.Common.{◌≡◌, ℕ, false, List, [], ◌∷◌, ◌++◌, inl, sym, subst, refl}
+use Rattle.seize_book.proofs.Bounds.{size_itself}
 use Rattle.seize_book.proofs.Facts.{equal}
 use Rattle.seize_machine.specs.Machine.State.{Out}
 use Rattle.seize_machine.specs.Machine.Event.{SwapOut}
@@ -28,6 +29,7 @@ swap-requires c =
       book.0,
       subst (λ (w : Site). MayStep w pass.id pass.seen held [] lives (λ v. 0) (λ v log. Made (record { pass = pass.id; size = pass.size; event = SwapOut s; life = 0; kepts = [] })) (λ v. false))
           (sym (is_at_head head.word pass.name book.1 head.head)) (may_leave pass.name m pass.id pass.size 0 false c.requires.leaving.0 lives pass.seen held key.one out (sym book.2) its),
+      λ v log. size_itself pass.size,
     )
 
 pub returns-clause-noted : goal.returns-clause-noted

@@ -1,4 +1,5 @@
 use Rattle.std.proofs.Common.{◌≡◌, ◌<◌, true, false, [], length, sym, subst, refl}
+use Rattle.seize_book.proofs.Bounds.{size_itself}
 use Rattle.seize_book.proofs.Facts.{equal}
 use Rattle.seize_machine.specs.Machine.State.{slot_at}
 use Rattle.seize_machine.specs.Machine.Event.{ReadHead}
@@ -25,6 +26,7 @@ load-requires c =
       book.0,
       subst (λ (w : Site). MayStep w pass.id pass.seen held [] [] (λ v. v) (λ v log. Made (record { pass = pass.id; size = pass.size; event = ReadHead (key_of held) (slot head); life = 0; kepts = [] })) (λ v. false))
           (sym (is_at_head head.word pass.name book.1 head.head)) (may_read pass.name (slot head) pass.id pass.size pass.seen held key.one next there),
+      λ v log. size_itself pass.size,
     )
 
 pub returns-clause-noted : goal.returns-clause-noted

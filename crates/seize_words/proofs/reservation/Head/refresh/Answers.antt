@@ -1,6 +1,7 @@
 use Rattle.std.proofs.Common.{◌≡◌, ℕ, true, false, List, [], ◌∷◌, ◌++◌, inl, refl, sym, ap, ◌∙◌, subst}
 use Rattle.seize_machine.specs.Machine.State.{Out}
 use Rattle.seize_machine.specs.Machine.Event.{SwapOut}
+use Rattle.seize_book.proofs.Bounds.{size_itself}
 use Rattle.seize_machine.proofs.Facts.{Stands}
 use Rattle.seize_words.specs.Atomic.{TakesStep, entries}
 use Rattle.seize_book.specs.Blocks.{head_word}
@@ -30,6 +31,7 @@ swap-word-requires c =
       book.0,
       subst (λ (w : Site). MayStep w pass.id pass.seen held [] lives (λ v. 1) (λ v log. Made (record { pass = pass.id; size = pass.size; event = SwapOut s; life = next; kepts = [] })) (λ v. false))
           (sym (is_at_head head.word pass.name book.1 head.head)) (may_leave pass.name m pass.id pass.size next true c.requires.refreshing.0 lives pass.seen held key.one out (sym book.2) its),
+      λ v log. size_itself pass.size,
     )
 
 -- what the step tells, said of the key and of the activation as they are in the end

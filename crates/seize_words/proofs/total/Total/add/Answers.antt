@@ -11,6 +11,7 @@ use Rattle.seize_book.specs.Private.{key_of, own_of}
 use Rattle.seize_book.specs.Tokens.{AddsEntry, Name, start}
 use Rattle.seize_words.specs.Totals.{made_of}
 use Rattle.seize_book.specs.declared.book.keys.Keys.{Keys}
+use Rattle.seize_book.proofs.Bounds.{size_itself}
 use Rattle.seize_book.proofs.Facts.{only_is}
 use Rattle.seize_words.proofs.Taken.{AreBoth, may_take, now_at, told}
 use Rattle.seize_words.proofs.total.Total.add.Goals as goal
@@ -19,7 +20,7 @@ pub add-requires : goal.add-requires
 add-requires c =
     let total = c.args.self.now in let key = c.args.key.now in let number = c.args.numbers.now in let pass = c.args.pass.now in let both = c.join.new.self in let same = c.none-head.ensures.0 ∙ c.none-next.ensures.0 in
     let book = c.requires.book in let joined : AreBoth both number key = (c.join.ensures.0 ∙ ap (λ (k : Keys). k.name) same, c.join.ensures.2 ∙ ap (λ (k : Keys). k.held ++ key.keys.held) same) in
-    (book.2, joined.0 ∙ book.1, may_take total.word number key pass both total.total book c.requires.next c.requires.place joined)
+    (book.2, joined.0 ∙ book.1, may_take total.word number key pass both total.total book c.requires.next c.requires.place joined, λ v log. size_itself pass.size)
 
 pub returns-clause-made : goal.returns-clause-made
 returns-clause-made c =

@@ -4,15 +4,15 @@ use mir.Syntax.{a_type, dcons, dnil}
 use mir.MapTy.{inst_fn}
 use base.Fraction.{full_share}
 use denote.Param.{bounded}
-use Rattle.seize_book.proofs.Borrowed.{opens_pass, closes_pass, two_out, two_in}
+use Rattle.seize_book.proofs.Borrowed.{opens_adder, closes_pass, two_out, two_in}
 use Rattle.seize_book.specs.Entry.{Entry}
 use Rattle.seize_words.specs.Atomic.{MayTakeStep, minus}
-use Rattle.seize_book.specs.Tokens.{Name, inside, knows, keys_own, pass_owns, pass_holds}
+use Rattle.seize_book.specs.Tokens.{Name, adder_owns, inside, keys_own, knows, pass_adds}
 use Rattle.seize_book.specs.contracts.book.keys.Keys as Keys
 use Rattle.seize_book.specs.contracts.book.pass.Pass as Pass
 use Rattle.seize_words.specs.contracts.word.Word as Word
 use Rattle.seize_book.proofs.Passes.{IsDistinct}
-use Rattle.seize_words.proofs.Steps.{after_step, opened, steps}
+use Rattle.seize_words.proofs.Steps.{after_step, opened_adder, steps}
 use Rattle.seize_book.proofs.Fields.{ends}
 use Rattle.seize_words.specs.contracts.word.Word.subtract.{ended, clauses}
 use Rattle.seize_words.specs.contracts.word.Word.subtract.Key.{name as #self}
@@ -40,14 +40,14 @@ subtract_spec 𝓤 𝓛 𝓜 𝓡 wired P LP g d _ =
     use2 𝓛 (later (some (λ (s : Share). ‵ (flft ν s) ⊛ raw (wand 𝓤 (𝓛.A.lft ν s) (H.⇛ (𝓛.A.lft κs.0 qs.0)))))) (Lends-one 𝓛 𝓜 𝓡 κs.0 ν qs.0) $ await ! tt $ pick ! (λ s. split ! $
     -- [the token; the way back; the word's invariant; the pass, in two; the keys, in two; their tokens, the pass's first; the other tokens]
     move ! (5 ∷ 6 ∷ 8 ∷ []) $ opens ! tt Keys.the_row kb ko (λ vs0. move ! (1 ∷ []) $ fsplit ! $ move ! (1 ∷ []) $ rewrite ! 0 (λ (z : Name). ‵ (keys_own z keys.held)) (asked.1 ∙ sym asked.0) refl $
-    move ! (9 ∷ 10 ∷ 11 ∷ []) $ opens_pass ! tt ℓ pass pb po (λ vs1. rewrite ! 0 (λ (z : Name). ‵ (pass_owns z pass.id pass.seen)) (sym asked.0) refl $
-    use1 𝓛 (given (IsDistinct 𝓛 n) (‵ (knows n) ⊛ ‵ (fnamed n.number (inside n)) ⊛ ‵ (pass_holds n pass.id pass.seen))) (opened 𝓛 site pass.id pass.seen) $ learn ! (λ distinct. split3 ! $
+    move ! (9 ∷ 10 ∷ 11 ∷ []) $ opens_adder ! tt ℓ pass pb po (λ vs1. rewrite ! 0 (λ (z : Name). ‵ (adder_owns z pass.id pass.size pass.seen)) (sym asked.0) refl $
+    use1 𝓛 (given (IsDistinct 𝓛 n) (‵ (knows n) ⊛ ‵ (fnamed n.number (inside n)) ⊛ ‵ (pass_adds n pass.id pass.size pass.seen))) (opened_adder 𝓛 site pass.id pass.size pass.seen) $ learn ! (λ distinct. split3 ! $
     -- [the book; its invariant; the pass's; the pass; its cell, in four entries; the keys'; the keys; their cell; the token; the way back; the word's invariant; the other tokens]
     let entry : ℕ → List Entry → Entry = g.entry in let after : ℕ → Fml = after_step 𝓛 site [] pass.id pass.seen keys.held [] [] full_share f entry g.trades in let out : ℕ → Fml = λ v. fsep (flft ν s) (after v) in
     first ! $ blocks ! $ sets ! (addr ! (through ! refl (stop !))) refl (tt, tt) $ sets ! (of_opd ! (get ! refl)) refl (tt, tt) $
     nothing ! $ nothing ! $ join ! $ move ! (9 ∷ 0 ∷ []) $ join ! $ move ! (3 ∷ 0 ∷ []) $ join ! $ move ! (13 ∷ 0 ∷ []) $ join ! $ move ! (14 ∷ 2 ∷ 0 ∷ []) $
     use3 𝓛 (raw (𝓣.C _ (vptr b o ∷ vint w64 less ∷ seq_cst ∷ []) (λ u. mean 𝓛 (found out u))))
-    (via 𝓤 _ (steps 𝓛 site [] pass.id pass.seen keys.held [] [] full_share f entry g.trades b o t.1 ν s apart distinct asked.2) (subs 𝓛 𝓜 𝓡 (code.calls-core::raw_atomic::fetch_sub 𝓡.env wired) (block_ptr b o) less are.1.0.1 out)) $
+    (via 𝓤 _ (steps 𝓛 site [] pass.id pass.seen keys.held [] [] full_share f entry g.trades b o t.1 ν s apart distinct pass.size asked.3 asked.2) (subs 𝓛 𝓜 𝓡 (code.calls-core::raw_atomic::fetch_sub 𝓡.env wired) (block_ptr b o) less are.1.0.1 out)) $
     sets ! (agg ! (and_then ! (lit ! tt) (no_more !))) refl (tt, (record { fits = lit< tt }, tt)) $
     Calls-last ! (fm 𝓛 𝓜 𝓡) (found out) (and_then ! (get ! refl) (and_then ! (get ! refl) (and_then ! (get ! refl) (no_more !)))) (λ u. finds ! out (λ v fits. lands_last ! refl (tt, record { fits = fits }) $ exec ! 𝓣.C 𝓣.Λ Ev (tail fn.body) (at_ret Ev Post) $ sets ! (of_opd ! (get ! refl)) refl (tt, record { fits = fits }) $
     fsplit ! $ move ! (0 ∷ 13 ∷ []) $ use2 𝓛 (later (‵ (flft κs.0 qs.0))) (apply∗ 𝓤 (𝓛.A.lft ν s) (H.⇛ (𝓛.A.lft κs.0 qs.0))) $ await ! tt $ move ! (1 ∷ []) $ fpick ! (λ x. fsplit ! $ fpick ! (λ so. drop ! $ fsplit ! $ move ! (1 ∷ []) $ fsplit ! $ move ! (1 ∷ []) $ drop ! $ move ! (1 ∷ 0 ∷ []) $

@@ -1,7 +1,7 @@
 use Rattle.std.proofs.Common.{ℕ, subst, sym, ◌∙◌}
 use Rattle.seize.proofs.Facts.{content_once}
 use Rattle.seize_parts.specs.Blocks.{HasContent, content}
-use Rattle.seize.specs.Links.{taken_content, taken_name}
+use Rattle.seize.specs.Takens.{taken_content, taken_name}
 use Rattle.seize.proofs.block.taken.Taken.from_owned.Goals as goal
 
 pub returns-clause-content : goal.returns-clause-content

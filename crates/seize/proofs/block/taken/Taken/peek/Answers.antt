@@ -1,5 +1,5 @@
 use Rattle.seize.proofs.Facts.{content_once}
-use Rattle.seize.specs.Links.{taken_content, taken_name}
+use Rattle.seize.specs.Takens.{taken_content, taken_name}
 use Rattle.seize.proofs.block.taken.Taken.peek.Goals as goal
 
 pub returns : goal.returns

@@ -1,9 +1,10 @@
 -- `note` adds one event, with no step.
 use Rattle.seize_book.proofs.Kit.{join, Lfts, NamedLft, named_lft, ℕ, List, [], ◌∷◌, refl, sym, proved, named, Val, vptr, vunit, SProp, emp, Fml, ftrue, fsep, flft, ‵, raw, ◌⊛◌, some, given, later, await, ◌$◌, ◌∵◌, !, qed, by, move, keep, split, fsplit, fsplit3, fjoin, fjoin3, pick, learn, use2, rewrite, feq_i, unit_lit, of_opd, returns, enter, alloc_all, pass_all, free_all, look_at, sets, fact, fact_i, heard, tables, owns, types_at, plain, mut_vals, mut_Tells, nothing, opens, closes, Stays, stay_ref, walk_of, Goes-ref}
+use Rattle.std.proofs.Common.{◌≤◌, arith}
 use mir.Syntax.{a_type, dcons, dnil}
 use mir.MapTy.{inst_fn}
 use denote.Param.{bounded}
-use Rattle.seize_book.proofs.Borrowed.{opens_pass, closes_pass, two_out, two_in}
+use Rattle.seize_book.proofs.Borrowed.{opens_adder, closes_pass, two_out, two_in}
 use Rattle.seize_book.specs.Entry.{Entry, Deed}
 use Rattle.seize_book.specs.Ledger.{HeldKey}
 use Rattle.seize_book.specs.Adding.{Asks, deed_with_words}
@@ -37,11 +38,11 @@ add_spec 𝓤 𝓛 𝓜 𝓡 wired P LP g d _ =
     -- [the pass, in two; the keys, in two; the pass's token; the other tokens; the keys's token]
     move ! (2 ∷ 3 ∷ 6 ∷ []) $ opens ! tt Keys.the_row pb po (λ vs0. move ! (1 ∷ []) $ fsplit ! $ move ! (1 ∷ []) $ rewrite ! 0 (λ (z : Name). ‵ (keys_own z p.held)) asked.0 refl $
     -- [the rights; the keys; its cell, in four entries; the pass, in two; its token; the other tokens]
-    move ! (6 ∷ 7 ∷ 8 ∷ []) $ opens_pass ! tt ℓ r rb ro (λ vs1.
+    move ! (6 ∷ 7 ∷ 8 ∷ []) $ opens_adder ! tt ℓ r rb ro (λ vs1.
     -- [what the pass owns; the pass; its cell, in four entries; the rights; the keys; its cell; the other tokens]
     let e : Deed = deed_with_words r g.event g.kepts in
     move ! (0 ∷ 6 ∷ []) $ use2 𝓛 (later (some (λ (t : List Entry × List (HeldKey Entry)). given (AddsEntryWith r.name r.id r.seen t.0 p.held t.1 e) (‵ (pass_owns r.name r.id t.0) ⊛ ‵ (keys_own r.name t.1)))))
-    (adds 𝓛 r.name r.id r.seen p.held e refl asked.1) $ await ! tt $ pick ! (λ t. learn ! (λ so. split ! $
+    (adds 𝓛 r.name r.id r.seen p.held e r.size refl (let le : r.size ≤ r.size = omega arith in le) asked.1) $ await ! tt $ pick ! (λ t. learn ! (λ so. split ! $
     -- [what the pass owns; the rights; the pass; its cell, in four entries; the keys; its cell; the other tokens]
     let p' : Keys.the_row.Denot = record p { held = t.1 } in let r' : (Pass.the_row ℓ).Denot = record r { seen = t.0 } in
     move ! (1 ∷ []) $ rewrite ! 0 (λ (z : Name). ‵ (keys_own z t.1)) (sym asked.0) refl $ move ! (2 ∷ 1 ∷ []) $ join ! $ move ! (2 ∷ 0 ∷ 3 ∷ 4 ∷ 5 ∷ []) $ closes_pass ! tt ℓ r' refl vs1 rb ro $

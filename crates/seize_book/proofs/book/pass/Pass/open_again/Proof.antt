@@ -25,8 +25,8 @@ open_again_spec 𝓤 𝓛 𝓜 𝓡 wired =
     -- [its marker; what it owns; nothing]
     keep ! (1 ∷ []) $
     enter ! 𝓣.C 𝓣.Λ fn (token ∷ []) Post $ alloc_all ! (λ l. pass_all ! refl ((tt, (tt, tt)), tt) $
-    rewrite ! 0 (λ (m : ℕ). ‵ (lent_pass p.name [] m p.seen)) asked refl $
-    use1 𝓛 (‵ (porter_owns p.name true 0 p.seen)) (pass_homes 𝓛 p.name p.seen) $
+    fsplit ! $ move ! (1 ∷ []) $ rewrite ! 0 (λ (m : ℕ). ‵ (lent_pass p.name [] m p.seen)) asked refl $
+    use1 𝓛 (‵ (porter_owns p.name true 0 p.seen)) (pass_homes 𝓛 p.name p.seen) $ move ! (1 ∷ 0 ∷ []) $ fjoin ! $
     let r : Porter.the_row.Denot = record { marker = record {}; name = p.name; size = p.size; seen = p.seen; home = true } in
     sets ! (agg ! (no_more !)) refl (tt, tt) $ sets ! (agg ! (and_then ! (get ! refl) (no_more !))) refl (tt, (tt, tt)) $
     use0 𝓛 (‵ (Token.own_val (record {}, tt) (token ∷ []))) (token_made 𝓛) $ fjoin ! $

@@ -28,13 +28,13 @@ covers_spec 𝓤 𝓛 𝓜 𝓡 wired =
     -- [what the book owns; nothing; the porter, in three entries; the other's token; nothing; its token]
     keep ! (3 ∷ 4 ∷ 7 ∷ 5 ∷ 0 ∷ []) $
     enter ! 𝓣.C 𝓣.Λ fn (vptr pb po ∷ vptr kb ko ∷ []) Post $ alloc_all ! (λ l. pass_all ! refl ((tt, tt), ((tt, tt), tt)) $
-    opens ! tt Porter.the_row pb po (λ vs. move ! (1 ∷ []) $ fsplit ! $ move ! (1 ∷ []) $
-    -- [what the porter owns; the porter; its cell, in four entries; the other's token; what the book owns]
+    opens ! tt Porter.the_row pb po (λ vs. move ! (1 ∷ []) $ fsplit ! $ move ! (1 ∷ []) $ fsplit ! $ move ! (1 ∷ 2 ∷ 3 ∷ 4 ∷ 5 ∷ 6 ∷ 7 ∷ 8 ∷ 0 ∷ []) $
+    -- [what the porter owns; the porter; its cell, in four entries; the other's token; what the book owns; its size]
     rewrite ! 0 (λ (h : Bool). ‵ (porter_has b.name h b.seen)) asked.0 refl $ move ! (7 ∷ []) $ rewrite ! 0 (λ (z : Name). ‵ (book_owns z k.seen)) asked.1 refl $ move ! (1 ∷ 0 ∷ []) $
     use2 𝓛 (later (given (IsPrefix k.seen b.seen) (‵ (porter_owns b.name true 0 b.seen) ⊛ ‵ (book_owns b.name k.seen)))) (covered 𝓛 b.name b.seen k.seen) $ await ! tt $ learn ! (λ so. split ! $
     rewrite ! 0 (λ (h : Bool). ‵ (porter_has b.name h b.seen)) (sym asked.0) refl $
-    -- [what the porter owns; what the book owns; the porter; its cell, in four entries; the other's token]
-    move ! (2 ∷ 0 ∷ []) $ fjoin ! $ move ! (2 ∷ 0 ∷ 3 ∷ 4 ∷ 5 ∷ []) $ closes ! tt Porter.the_row b vs pb po $ move ! (0 ∷ 1 ∷ 2 ∷ 4 ∷ []) $
+    -- [what the porter owns; what the book owns; the porter; its cell, in four entries; the other's token; its size]
+    move ! (8 ∷ 0 ∷ []) $ fjoin ! $ move ! (2 ∷ 0 ∷ []) $ fjoin ! $ move ! (2 ∷ 0 ∷ 3 ∷ 4 ∷ 5 ∷ []) $ closes ! tt Porter.the_row b vs pb po $ move ! (0 ∷ 1 ∷ 2 ∷ 4 ∷ []) $
     -- [the porter, in two; its token; the other's]
     sets ! (of_opd ! (unit_lit !)) refl (tt, tt) $ feq_i ! (List Val) (vunit ∷ []) (vunit ∷ []) refl $
     -- [the result; the porter, in two; its token; the other's]

@@ -23,11 +23,11 @@ leave_home_spec 𝓤 𝓛 𝓜 𝓡 wired =
     -- [the porter, in three entries; nothing; its token; nothing; what was asked]
     keep ! (1 ∷ 2 ∷ 4 ∷ []) $
     enter ! 𝓣.C 𝓣.Λ fn (vptr pb po ∷ []) Post $ alloc_all ! (λ l. pass_all ! refl ((tt, tt), tt) $
-    opens ! tt Porter.the_row pb po (λ vs. move ! (1 ∷ []) $ fsplit ! $ move ! (1 ∷ []) $
-    -- [what the porter owns; the porter; its cell, in four entries]
+    opens ! tt Porter.the_row pb po (λ vs. move ! (1 ∷ []) $ fsplit ! $ move ! (1 ∷ []) $ fsplit ! $ move ! (1 ∷ []) $
+    -- [what the porter owns; its size; the porter; its cell, in four entries]
     use1 𝓛 (later (‵ (porter_has b.name false b.seen))) (goes_off 𝓛 b.name b.seen b.home) $ await ! tt $
     let b' : Porter.the_row.Denot = record b { home = false } in
-    move ! (1 ∷ 0 ∷ []) $ fjoin ! $ move ! (1 ∷ 0 ∷ 2 ∷ 3 ∷ 4 ∷ []) $ closes ! tt Porter.the_row b' vs pb po $
+    move ! (1 ∷ 0 ∷ []) $ fjoin ! $ move ! (1 ∷ 0 ∷ []) $ fjoin ! $ move ! (1 ∷ 0 ∷ 2 ∷ 3 ∷ 4 ∷ []) $ closes ! tt Porter.the_row b' vs pb po $
     -- [the porter, in two; its token]
     sets ! (of_opd ! (unit_lit !)) refl (tt, tt) $ feq_i ! (List Val) (vunit ∷ []) (vunit ∷ []) refl $
     nothing ! $ move ! (4 ∷ 0 ∷ []) $ fjoin ! $

@@ -53,7 +53,7 @@ look_spec 𝓤 𝓛 𝓜 𝓡 wired =
     enter ! 𝓣.C 𝓣.Λ fn (vptr sb so ∷ vptr pb po ∷ []) Post $ alloc_all ! (λ l. pass_all ! refl ((tt, tt), ((tt, tt), tt)) $
     opens_pass ! tt ℓ pass pb po (λ vs.
     -- [what the pass owns; the pass; its cell, in four entries; the porter's token; the porter]
-    move ! (7 ∷ []) $ unhide ! $ fsplit ! $ drop ! $ rewrite ! 0 (λ (h : Bool). ‵ (porter_shares b.name h b.seen κ)) asked.0 refl $ rewrite ! 0 (λ (z : Name). ‵ (porter_shares z false b.seen κ)) (sym asked.1) refl $ move ! (0 ∷ 1 ∷ 7 ∷ []) $
+    move ! (7 ∷ []) $ unhide ! $ fsplit ! $ drop ! $ fsplit ! $ drop ! $ rewrite ! 0 (λ (h : Bool). ‵ (porter_shares b.name h b.seen κ)) asked.0 refl $ rewrite ! 0 (λ (z : Name). ‵ (porter_shares z false b.seen κ)) (sym asked.1) refl $ move ! (0 ∷ 1 ∷ 7 ∷ []) $
     use3 𝓛 (later (some (λ (log : List Entry). given (IsSince 𝓛 n b.seen 𝓜 𝓡 κ q pass.id pass.seen log) (‵ (pass_owns n pass.id log) ⊛ ‵ (permits n log) ⊛ ‵ (flft κ q)))))
     (looks_on 𝓛 n b.seen 𝓜 𝓡 κ q pass.id pass.seen) $ await ! tt $ pick ! (λ log. learn ! (λ is. split3 ! $ let ts : List Pair = pairs_in (start n) log in
     move ! (1 ∷ []) $ fsplit ! $ move ! (1 ∷ []) $ use1 𝓛 (some (λ (ks : List ℕ). given (AreCovered ks ts) (‵ (all_permitted n.pairs ks)))) (permits_of 𝓛 n.pairs ts) $ pick ! (λ ks. learn ! (λ are.

@@ -31,9 +31,10 @@ pass_spec 𝓤 𝓛 𝓜 𝓡 wired =
     fsplit ! $ move ! (2 ∷ []) $ fsplit ! $ fsplit ! $ drop ! $ unhide ! $ fsplit ! $ drop ! $
     -- [what is shared of the porter; nothing; its token; nothing]
     keep ! (0 ∷ 2 ∷ []) $
-    enter ! 𝓣.C 𝓣.Λ fn (vptr pb po ∷ []) Post $ alloc_all ! (λ l. pass_all ! refl ((tt, tt), tt) $
+    enter ! 𝓣.C 𝓣.Λ fn (vptr pb po ∷ []) Post $ alloc_all ! (λ l. pass_all ! refl ((tt, tt), tt) $ fsplit ! $ move ! (1 ∷ 2 ∷ []) $
+    -- [what is shared of the porter; its token; its size]
     rewrite ! 0 (λ (h : Bool). ‵ (porter_shares b.name h b.seen κ)) asked refl $
-    use2 𝓛 (later (some (λ (t : ℕ × List Entry). given (IsGiven 𝓛 b.name b.seen 𝓜 𝓡 κ q t) (‵ (lent_pass b.name κ t.0 t.1) ⊛ ‵ (flft κ q))))) (gives_pass 𝓛 b.name b.seen 𝓜 𝓡 κ q) $ await ! tt $ pick ! (λ t. learn ! (λ so. split ! $
+    use2 𝓛 (later (some (λ (t : ℕ × List Entry). given (IsGiven 𝓛 b.name b.seen 𝓜 𝓡 κ q t) (‵ (lent_pass b.name κ t.0 t.1) ⊛ ‵ (flft κ q))))) (gives_pass 𝓛 b.name b.seen 𝓜 𝓡 κ q) $ await ! tt $ pick ! (λ t. learn ! (λ so. split ! $ move ! (2 ∷ 0 ∷ []) $ fjoin ! $
     -- [what the pass owns; the token]
     let r : Row.Denot = record { marker = record {}; name = b.name; id = t.0; size = b.size; seen = t.1 } in
     sets ! (agg ! (no_more !)) refl (tt, tt) $ sets ! (agg ! (and_then ! (get ! refl) (no_more !))) refl (tt, (tt, tt)) $

@@ -25,9 +25,10 @@ shut_spec 𝓤 𝓛 𝓜 𝓡 wired =
     move ! (1 ∷ []) $ fsplit ! $ fsplit ! $
     -- [its marker; what it owns; nothing]
     keep ! (1 ∷ []) $
-    enter ! 𝓣.C 𝓣.Λ fn (token ∷ []) Post $ alloc_all ! (λ l. pass_all ! refl ((tt, (tt, tt)), tt) $
+    enter ! 𝓣.C 𝓣.Λ fn (token ∷ []) Post $ alloc_all ! (λ l. pass_all ! refl ((tt, (tt, tt)), tt) $ fsplit ! $ move ! (1 ∷ []) $
+    -- [what it has; its size]
     use1 𝓛 (later (some (λ (log : List Entry). given (IsHome 𝓛 b.name b.home b.seen log) (‵ (porter_owns b.name true 0 log))))) (goes_home 𝓛 b.name b.seen b.home) $ await ! tt $ pick ! (λ log. learn ! (λ so.
-    use1 𝓛 (‵ (pass_owns b.name 0 log)) (home_passes 𝓛 b.name log) $
+    use1 𝓛 (‵ (pass_owns b.name 0 log)) (home_passes 𝓛 b.name log) $ move ! (1 ∷ 0 ∷ []) $ fjoin ! $
     let r : (Pass.the_row static_lft).Denot = record { marker = record {}; name = b.name; id = 0; size = b.size; seen = log } in
     sets ! (agg ! (no_more !)) refl (tt, tt) $ sets ! (agg ! (and_then ! (get ! refl) (no_more !))) refl (tt, (tt, tt)) $
     use0 𝓛 (‵ ((Mark static_lft).own_val (record {}, tt) (token ∷ []))) (mark_made 𝓛 static_lft) $ fjoin ! $

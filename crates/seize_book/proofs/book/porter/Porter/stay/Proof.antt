@@ -34,7 +34,7 @@ use mathlib.Core.List.{IsPrefix}
 use Rattle.seize_book.specs.Begin.{book_owns}
 use Rattle.seize_book.specs.Entry.{Entry, entry_coded}
 use Rattle.seize_book.specs.Ledger.{reached}
-use Rattle.seize_book.specs.Tokens.{Name, knows, lent_pass, pass_owns, porter_owns}
+use Rattle.seize_book.specs.Tokens.{Name, knows, pass_owns, porter_owns, sized_pass}
 use Rattle.seize_book.specs.Porters.{HadStay, MayStay}
 use Rattle.seize_book.specs.contracts.book.pass.Pass as Pass
 use Rattle.seize_book.specs.contracts.book.porter.Porter as Porter
@@ -69,12 +69,12 @@ stay_spec 𝓤 𝓛 𝓜 𝓡 wired W R LW LR w dict met =
     rewrite ! 0 (λ (ws : List Val). ‵ ((MutRef (named 1) μ V).own_val m ws)) et refl $
     let Vs : List Val = vptr rb ro ∷ vy ∷ [] in suffices ! (Run Vs) (subst (λ (ws : List Val). ent 𝓤 (Run Vs) (Run ws)) (sym (λ i. es i ++ (et i ++ []))) (id⊢ 𝓤 (Run Vs))) $
     enter ! 𝓣.C 𝓣.Λ fn Vs Post $ alloc_all ! (λ l. pass_all ! refl ((tt, tt), ((tt, tt), tt)) $ let Ev = env fn.locals l in let τ : Ty = (spot_of 𝓤 H Ev 3).0 in
-    move ! (1 ∷ 2 ∷ 5 ∷ []) $ opens ! tt Row rb ro (λ vs0. move ! (1 ∷ []) $ fsplit ! $ move ! (1 ∷ []) $
-    -- [what the porter owns; the porter; its cell, in four entries; the work; the tokens of R, W]
+    move ! (1 ∷ 2 ∷ 5 ∷ []) $ opens ! tt Row rb ro (λ vs0. move ! (1 ∷ []) $ fsplit ! $ move ! (1 ∷ []) $ fsplit ! $ move ! (1 ∷ 2 ∷ 3 ∷ 4 ∷ 5 ∷ 6 ∷ 7 ∷ 8 ∷ 9 ∷ 10 ∷ 0 ∷ []) $
+    -- [what the porter owns; the porter; its cell, in four entries; the work; the tokens of R, W, the work's; its size]
     use1 𝓛 (later (some (λ (log : List Entry). given (IsHome 𝓛 b.name b.home b.seen log) (‵ (porter_owns b.name true 0 log))))) (goes_home 𝓛 b.name b.seen b.home) $ await ! tt $ pick ! (λ log. learn ! (λ so.
     use1 𝓛 (‵ (porter_owns b.name true 0 log) ⊛ ‵ (knows b.name) ⊛ ‵ (reached entry_coded b.name.log log)) (porter_knows 𝓛 b.name true 0 log) $ split3 ! $ move ! (1 ∷ 2 ∷ []) $ fjoin ! $
     -- [the token of the book; what the porter owns; the porter; its cell, in four entries; the work; the tokens of R, W, the work's]
-    move ! (1 ∷ 2 ∷ 3 ∷ 4 ∷ 5 ∷ 6 ∷ 7 ∷ 8 ∷ 9 ∷ 10 ∷ []) $ use1 𝓛 (‵ (pass_owns b.name 0 log)) (home_passes 𝓛 b.name log) $
+    move ! (1 ∷ 2 ∷ 3 ∷ 4 ∷ 5 ∷ 6 ∷ 7 ∷ 8 ∷ 9 ∷ 10 ∷ []) $ use1 𝓛 (‵ (pass_owns b.name 0 log)) (home_passes 𝓛 b.name log) $ move ! (11 ∷ 0 ∷ []) $ fjoin ! $
     let x : P.Denot = record { marker = record {}; name = b.name; id = 0; size = b.size; seen = log } in
     sets ! (agg ! (no_more !)) refl (tt, tt) $ sets ! (agg ! (and_then ! (get ! refl) (no_more !))) refl (tt, (tt, tt)) $ sets ! (addr ! (from ! (stop !))) refl (tt, tt) $ sets ! (addr ! (through ! refl (stop !))) refl (tt, tt) $
     sets ! (of_opd ! (get ! refl)) refl (tt, tt) $ sets ! (addr ! (through ! refl (stop !))) refl (tt, tt) $
@@ -104,9 +104,11 @@ stay_spec 𝓤 𝓛 𝓜 𝓡 wired W R LW LR w dict met =
     move ! (0 ∷ 11 ∷ 7 ∷ []) $ use3 𝓛 (later (‵ (part_at P full_share x' (l 3) 0))) (ref_back 𝓛 P β δ x' (l 3) 0) $ await ! tt $
     use1 𝓛 (some (λ (v : Val). ‵ (fat full_share τ (l 3) 0 v) ⊛ ‵ (P.own_val x' (v ∷ [])))) (part_out_at 𝓛 P refl full_share x' (l 3) 0 τ refl) $ pick ! (λ v. split ! $ give_at ! 3 $
     -- [the pass; W's token; R's; nothing; the work's; the last work, in two; the borrow; nothing; the result; the fields; the cell, in four entries]
-    fsplit ! $ move ! (1 ∷ []) $ rewrite ! 0 (λ (k : Name). ‵ (lent_pass k [] x'.id x'.seen)) gave.0.0 refl $ rewrite ! 0 (λ (k : ℕ). ‵ (lent_pass b.name [] k x'.seen)) gave.0.1 refl $
-    use1 𝓛 (‵ (porter_owns b.name true 0 x'.seen)) (pass_homes 𝓛 b.name x'.seen) $ move ! (0 ∷ 16 ∷ []) $
-    use2 𝓛 (later (given (IsPrefix log x'.seen) (‵ (porter_owns b.name true 0 x'.seen) ⊛ ‵ (book_owns b.name log)))) (covered 𝓛 b.name x'.seen log) $ await ! tt $ learn ! (λ grows. split ! $ move ! (1 ∷ []) $ drop ! $
+    fsplit ! $ move ! (1 ∷ []) $ rewrite ! 0 (λ (k : Name). ‵ (sized_pass k [] x'.id x'.size x'.seen)) gave.0.0 refl $ rewrite ! 0 (λ (k : ℕ). ‵ (sized_pass b.name [] k x'.size x'.seen)) gave.0.1 refl $
+    rewrite ! 0 (λ (k : ℕ). ‵ (sized_pass b.name [] 0 k x'.seen)) gave.0.2 refl $ fsplit ! $ move ! (1 ∷ []) $
+    -- [the pass; its size; the marker; W's token; ..]
+    use1 𝓛 (‵ (porter_owns b.name true 0 x'.seen)) (pass_homes 𝓛 b.name x'.seen) $ move ! (0 ∷ 17 ∷ []) $
+    use2 𝓛 (later (given (IsPrefix log x'.seen) (‵ (porter_owns b.name true 0 x'.seen) ⊛ ‵ (book_owns b.name log)))) (covered 𝓛 b.name x'.seen log) $ await ! tt $ learn ! (λ grows. split ! $ move ! (1 ∷ []) $ drop ! $ move ! (1 ∷ 0 ∷ []) $ fjoin ! $
     -- [what the porter owns; the marker; W's token; R's; nothing; the work's; the last work, in two; the borrow; nothing; the result; the fields; the cell]
     let b' : Row.Denot = record b { seen = x'.seen; home = true } in
     move ! (11 ∷ 0 ∷ []) $ fjoin ! $ move ! (11 ∷ 0 ∷ 12 ∷ 13 ∷ 14 ∷ []) $ closes ! tt Row b' vs0 rb ro $

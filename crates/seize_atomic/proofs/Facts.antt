@@ -1,0 +1,79 @@
+-- What other crates may build on: what an alteration means at one moment of the list of all events.
+use Rattle.std.proofs.Common.{◌≡◌, ℕ, List, Option, Some, None, IfOk, refl, sym, subst}
+use denote.Bor.{Bor}
+use base.Stored.{Gv}
+use Rattle.core.specs.declared.result.Result.{Result}
+use Rattle.core.specs.declared.result.Result.TheVariants.{Err, Ok}
+use Rattle.seize.specs.Answer.{Answer}
+use Rattle.seize.specs.Answer.TheVariants.{Link}
+use Rattle.seize.specs.Exchange.TheVariants.{Compare}
+use Rattle.seize.specs.Machine.Event.{Event, ExchangeLink}
+use Rattle.seize.specs.Machine.History.{Moment}
+use Rattle.seize.specs.Machine.State.{link_at}
+use Rattle.seize.specs.Makes.{Makes, MakesOne}
+use Rattle.seize.specs.Moments.{StandsSince}
+use Rattle.seize.specs.Rules.{Says}
+use Rattle.seize.proofs.Facts.{earlier_since, makes_then, still_since, won_there}
+use Rattle.seize_book.specs.declared.book.pass.Pass.{Pass}
+use Rattle.seize_atomic.specs.Cells.{RetiresOut}
+use Rattle.seize_atomic.specs.Alters.{AltersCell, IsMadeBy, MayAnswer, TriesCell}
+use Rattle.seize_atomic.specs.declared.cells.NotAltered.{NotAltered}
+
+module _ {T A E : Type 0} (post : Option (Bor T) → Result (Option T × A) E → Type 0) (code : T → Gv) (s i kind : ℕ) where
+  -- a moment between two passes at which the cell has one content before, and after it what the function answers for that, with this
+  abbrev IsAlteredAt : Pass → Pass → A → Moment → Type 0
+  IsAlteredAt pass pass' a m =
+      StandsSince pass pass' m × ((x y : Option T) × MayAnswer post x (Ok (y, a)) × Says code (link_at m.before i) x × Says code (link_at m.after i) y)
+
+  stays : (held : Option ℕ) (pass mid pass' : Pass) (m : Moment) → StandsSince pass mid m → RetiresOut s kind held mid pass' → StandsSince pass pass' m
+  stays (Some v) pass mid pass' m since retired = still_since pass m since retired.0.made
+  stays None pass mid pass' m since retired = subst (λ (q : Pass). StandsSince pass q m) (sym retired) since
+
+  won_at : (found put : Option ℕ) (a : A) (pass mid pass' : Pass) → IsMadeBy post code found put a → MakesOne pass mid (ExchangeLink s i (Compare found put)) (Link found) → RetiresOut s kind found mid pass'
+      → (m : Moment) × IsAlteredAt pass pass' a m
+  won_at found put a pass mid pass' (x, y, says, answers, said) made retired =
+      let there = won_there s i found put made in (
+        there.0,
+        (
+          stays found pass mid pass' there.0 there.1 retired,
+          (x, y, answers, subst (λ (o : Option ℕ). Says code o x) (sym there.2) says, subst (λ (o : Option ℕ). Says code o y) (sym there.3) said),
+        ),
+      )
+
+  ok_same : (b a : A) → ◌≡◌ {A = Result A (NotAltered E)} (Ok b) (Ok a) → b ≡ a
+  ok_same b a is = cc
+
+  tried : (left : ℕ) (found : Option ℕ) (pass pass' : Pass) (result : Result A (NotAltered E)) (a : A) → result ≡ Ok a → TriesCell post code s i kind left found pass pass' result
+      → (m : Moment) × IsAlteredAt pass pass' a m
+  tried _ found pass _ _ a is (TriesCell.over _ _) = absurd (cc)
+  tried _ found pass _ _ a is (TriesCell.refused _ _ _ _ _) = absurd (cc)
+  tried _ found pass _ _ a is (TriesCell.no_memory _ _ _ _) = absurd (cc)
+  tried _ _ _ _ _ a is (TriesCell.lost left found put held b pass mid pass' result by differs made rest) =
+      let there = tried left held mid pass' result a is rest in (there.0, (earlier_since pass' there.0 made there.1.0, there.1.1))
+  tried _ _ _ _ _ a is (TriesCell.won left found put b pass mid pass' by made retired) =
+      subst (λ (b : A). (m : Moment) × IsAlteredAt pass pass' b m) (ok_same b a is) (won_at found put b pass mid pass' by made retired)
+
+  -- **An alteration that was made has a moment of the list, after what the pass had seen before the call, before which the cell has a
+  -- content x, and after which it has y, where the function may answer y and what the caller was given for x.**
+  pub altered : (tries : ℕ) (pass pass' : Pass) (result : Result A (NotAltered E)) → AltersCell post code s i kind tries pass pass' result
+      → IfOk result (λ a. (m : Moment) × StandsSince pass pass' m
+      × ((x y : Option T) × MayAnswer post x (Ok (y, a)) × Says code (link_at m.before i) x × Says code (link_at m.after i) y))
+  altered tries pass pass' (Ok a) (first, mid, reads, rest) =
+      let there = tried tries first mid pass' (Ok a) a refl rest in (there.0, earlier_since pass' there.0 reads there.1.0, there.1.1)
+  altered tries pass pass' (Err e) made = tt
+
+  -- **What an alteration made is some events of the list**, also where it was not made. So what the pass had seen it has seen still.
+  with_retired : (held : Option ℕ) {p mid r : Pass} {es : List (Event × Answer)} → RetiresOut s kind held mid r → Makes p mid es → (fs : List (Event × Answer)) × Makes p r fs
+  with_retired (Some v) retired makes = (_, makes_then makes retired.0.made)
+  with_retired None {p} {mid} {r} {es} retired makes = (es, subst (λ (q : Pass). Makes p q es) (sym retired) makes)
+
+  with_tries : (left : ℕ) (found : Option ℕ) (p pass pass' : Pass) (result : Result A (NotAltered E)) {es : List (Event × Answer)} → TriesCell post code s i kind left found pass pass' result → Makes p pass es
+      → (fs : List (Event × Answer)) × Makes p pass' fs
+  with_tries _ _ p _ _ _ {es} (TriesCell.over _ _) makes = (es, makes)
+  with_tries _ _ p _ _ _ {es} (TriesCell.refused _ _ _ _ _) makes = (es, makes)
+  with_tries _ _ p _ _ _ {es} (TriesCell.no_memory _ _ _ _) makes = (es, makes)
+  with_tries _ _ p _ _ _ (TriesCell.lost left found put held a pass mid pass' result by differs made rest) makes = with_tries left held p mid pass' result rest (makes_then makes made)
+  with_tries _ _ p _ _ _ (TriesCell.won left found put a pass mid pass' by made retired) makes = with_retired found retired (makes_then makes made)
+
+  pub alters_make : (tries : ℕ) (pass pass' : Pass) (result : Result A (NotAltered E)) → AltersCell post code s i kind tries pass pass' result → (es : List (Event × Answer)) × Makes pass pass' es
+  alters_make tries pass pass' result (first, mid, reads, rest) = with_tries tries first pass mid pass' result rest reads

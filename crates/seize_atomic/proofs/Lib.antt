@@ -1,0 +1,3 @@
+pub mod Altering
+pub mod Facts
+pub mod Trying

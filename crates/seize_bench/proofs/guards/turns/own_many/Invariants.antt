@@ -1,0 +1,5 @@
+use Rattle.seize.specs.Collectors.{IsPassOf, its_words}
+use Rattle.seize_bench.proofs.guards.turns.own_many.Given as goal
+
+abbrev pub invariant-loop : goal.invariant-loop
+invariant-loop g l = IsPassOf (its_words l.collector) l.pass
