@@ -44,18 +44,6 @@ module _ {T R : Type 0} where
   pub slots_in : (a b : ModelState T R) → outline a ≡ outline b → length a.slots ≡ length b.slots
   slots_in a b same = sym (length-map a.slots outline_of) ∙ ap (λ (l : List (Kind × ℕ)). length l) same ∙ length-map b.slots outline_of
 
--- How many slots there are.
-
-module _ {T R : Type 0} (st : ModelState T R) (s : ℕ) where
-  pub set_length : (slot : ModelSlot T R) → length (set_slot st s slot).slots ≡ length st.slots
-  set_length slot = length-set st.slots s slot
-
-  pub guards_length : (n : ℕ) → length (set_guards st s n).slots ≡ length st.slots
-  guards_length n = set_length (record (model_slot st s) { guards = n })
-
-  pub free_length : length (with_number_free st s).slots ≡ length st.slots
-  free_length = set_length unmade_slot
-
 -- The parts of calls.
 
 module _ {T R : Type 0} where

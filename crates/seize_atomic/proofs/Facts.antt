@@ -11,7 +11,7 @@ use Rattle.seize.specs.Machine.Event.{Event, ExchangeLink}
 use Rattle.seize.specs.Machine.History.{Moment}
 use Rattle.seize.specs.Machine.State.{link_at}
 use Rattle.seize.specs.Makes.{Makes, MakesOne}
-use Rattle.seize.specs.Moments.{StandsSince}
+use Rattle.seize.specs.Moments.{ExchangesOnly, StandsSince}
 use Rattle.seize.specs.Rules.{Says}
 use Rattle.seize.proofs.Facts.{earlier_since, makes_then, still_since, won_there}
 use Rattle.seize_book.specs.declared.book.pass.Pass.{Pass}
@@ -20,10 +20,12 @@ use Rattle.seize_atomic.specs.Alters.{AltersCell, IsMadeBy, MayAnswer, TriesCell
 use Rattle.seize_atomic.specs.declared.cells.NotAltered.{NotAltered}
 
 module _ {T A E : Type 0} (post : Option (Bor T) → Result (Option T × A) E → Type 0) (code : T → Gv) (s i kind : ℕ) where
-  -- a moment between two passes at which the cell has one content before, and after it what the function answers for that, with this
+  -- a moment between two passes at which the slot exchanges the cell, which has one content before, and after it what the function answers
+  -- for that, with this
   abbrev IsAlteredAt : Pass → Pass → A → Moment → Type 0
   IsAlteredAt pass pass' a m =
       StandsSince pass pass' m × ((x y : Option T) × MayAnswer post x (Ok (y, a)) × Says code (link_at m.before i) x × Says code (link_at m.after i) y)
+      × ExchangesOnly s i m
 
   stays : (held : Option ℕ) (pass mid pass' : Pass) (m : Moment) → StandsSince pass mid m → RetiresOut s kind held mid pass' → StandsSince pass pass' m
   stays (Some v) pass mid pass' m since retired = still_since pass m since retired.0.made
@@ -37,6 +39,7 @@ module _ {T A E : Type 0} (post : Option (Bor T) → Result (Option T × A) E �
         (
           stays found pass mid pass' there.0 there.1 retired,
           (x, y, answers, subst (λ (o : Option ℕ). Says code o x) (sym there.2) says, subst (λ (o : Option ℕ). Says code o y) (sym there.3) said),
+          there.4,
         ),
       )
 
@@ -49,17 +52,19 @@ module _ {T A E : Type 0} (post : Option (Bor T) → Result (Option T × A) E �
   tried _ found pass _ _ a is (TriesCell.refused _ _ _ _ _) = absurd (cc)
   tried _ found pass _ _ a is (TriesCell.no_memory _ _ _ _) = absurd (cc)
   tried _ _ _ _ _ a is (TriesCell.lost left found put held b pass mid pass' result by differs made rest) =
-      let there = tried left held mid pass' result a is rest in (there.0, (earlier_since pass' there.0 made there.1.0, there.1.1))
+      let there = tried left held mid pass' result a is rest in (there.0, (earlier_since pass' there.0 made there.1.0, there.1.1, there.1.2))
   tried _ _ _ _ _ a is (TriesCell.won left found put b pass mid pass' by made retired) =
       subst (λ (b : A). (m : Moment) × IsAlteredAt pass pass' b m) (ok_same b a is) (won_at found put b pass mid pass' by made retired)
 
-  -- **An alteration that was made has a moment of the list, after what the pass had seen before the call, before which the cell has a
-  -- content x, and after which it has y, where the function may answer y and what the caller was given for x.**
+  -- **An alteration that was made has a moment of the list, after what the pass had seen before the call: the slot's own exchange of the
+  -- cell, which leaves each other cell as it was. Before it the cell has a content x, and after it y, where the function may answer y and
+  -- what the caller was given for x.**
   pub altered : (tries : ℕ) (pass pass' : Pass) (result : Result A (NotAltered E)) → AltersCell post code s i kind tries pass pass' result
       → IfOk result (λ a. (m : Moment) × StandsSince pass pass' m
-      × ((x y : Option T) × MayAnswer post x (Ok (y, a)) × Says code (link_at m.before i) x × Says code (link_at m.after i) y))
+      × ((x y : Option T) × MayAnswer post x (Ok (y, a)) × Says code (link_at m.before i) x × Says code (link_at m.after i) y)
+      × ExchangesOnly s i m)
   altered tries pass pass' (Ok a) (first, mid, reads, rest) =
-      let there = tried tries first mid pass' (Ok a) a refl rest in (there.0, earlier_since pass' there.0 reads there.1.0, there.1.1)
+      let there = tried tries first mid pass' (Ok a) a refl rest in (there.0, earlier_since pass' there.0 reads there.1.0, there.1.1, there.1.2)
   altered tries pass pass' (Err e) made = tt
 
   -- **What an alteration made is some events of the list**, also where it was not made. So what the pass had seen it has seen still.

@@ -116,9 +116,6 @@ module _ {T Seen : Type 0} (c : Coded T) (puts : ℕ → T → List T) (told : S
     at3 : its_number slot3 ≡ n
     at3 = flushes.same.0 ∙ at2
 
-    pub attempt_number : its_number slot4 ≡ n
-    attempt_number = leaves.same.0 ∙ at3
-
     module _ (put1 : PutAs c.code puts had1) (put2 : PutAs c.code puts had2) where
       held : (st : ModelState T ℕ) (names : List (ℕ × T)) (kinds : List (ℕ × ℕ)) → Fits p0 st → is_free (model_slot st n).kind ≡ false → has_guard (model_slot st n) ≡ false → Holds c.code st names kinds p0.name p0.seen
           → HoldsThen c.code (batch_in_turn st n) (had1 ++ had2) p5

@@ -1,5 +1,5 @@
 -- All is reclaimed: in turn, and then what was put meanwhile. And what the model's reclaim of all leaves.
---     gone_in_turn, some_waits_then     the values that are gone in turn;  what waits then is what these put
+--     gone_of, waits_of         the values that are gone in turn;  what waits then is what these put
 --     all_goes                   both together are the model's
 --     all_size, all_links, all_many, all_free     the size and the links stay, and as many slots; and each is free
 use Rattle.std.proofs.Common.{◌≡◌, ℕ, zero, suc, true, List, [], ◌∷◌, length, map, Option, get_or, refl, sym, ap, subst, ◌∙◌}
@@ -25,7 +25,7 @@ use Rattle.seize_alone.specs.Holding.{Holds}
 use Rattle.seize_alone.specs.Reclaiming.{in_turn}
 use Rattle.seize_alone.proofs.Forgotten.{all_gone_held}
 use Rattle.seize_alone.proofs.Reclaiming.{off_slot, parted_all}
-use Rattle.seize_parts.specs.Aparts.{AreWaiting, Goes, GoesAll, IsSomeHeld, MayGo}
+use Rattle.seize_parts.specs.Aparts.{AreWaiting, Goes, GoesAll, MayGo}
 use Rattle.seize_parts.specs.Told.{told_of}
 use Rattle.seize_parts.specs.declared.alone.place.Place.{Place}
 use Rattle.seize_parts.proofs.Aparts.{told_both, told_had, waits_further}
@@ -38,9 +38,6 @@ module _ {T Seen : Type 0} (c : Coded T) (puts : ℕ → T → List T) (weight :
   waits_of : (st : ModelState T ℕ) (names : List (ℕ × T)) (kinds : List (ℕ × ℕ)) → MayGo pass places st → Holds c.code st names kinds pass.name pass.seen → AreWaiting c.code queue' (further puts (gone_of st))
   waits_of st names kinds may holds =
       waits_further c puts pass.name goes.had (gone_of st) queue queue' (goes.holds st names kinds may holds).1 goes.put goes.waits (ap (λ (held : List (HeldKey Entry)). labels_of held) empty.1) (ap (λ (held : List (HeldKey Entry)). kepts_in held) empty.1)
-
-  pub some_wait : IsSomeHeld c.code pass (MayGo pass places) → (vs : List (T × ℕ)) × AreWaiting c.code queue' vs
-  some_wait held = (further puts (gone_of held.0), waits_of held.0 held.1 held.2 held.4 held.3)
 
   pub all_goes : (later : Pass) (last : Seen) → IsLegalList (start pass.name) pass.seen → later ≡ pass' → ((vs : List (T × ℕ)) → AreWaiting c.code queue' vs → last ≡ told_of told seen' (gone_from puts weight vs))
       → GoesAll c.code puts weight told (MayGo pass places) pass later seen last

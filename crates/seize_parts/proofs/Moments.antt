@@ -1,7 +1,7 @@
 -- The moments of a legal list. Each is a step of the machine, begins where the one before ended, and leaves each link as it was or won an
 -- exchange of it. So what each of them carries on from the state before it to the state after it holds of each later state.
-use Rattle.std.proofs.Common.{◌≡◌, ℕ, zero, suc, ◌≤◌, ◌==◌, Bool, true, false, List, [], ◌∷◌, ◌++◌, length, slice_get, option_to_list, Option, Some, None, ◌⊎◌, inl, inr, refl, sym, ◌∙◌, ap, subst, arith}
-use Rattle.std.proofs.lemmas.List.{get_or-set_same}
+use Rattle.std.proofs.Common.{◌≡◌, ℕ, zero, suc, ◌≤◌, ◌==◌, Bool, true, false, List, [], ◌∷◌, ◌++◌, length, slice_get, option_to_list, Option, Some, None, ◌⊎◌, inl, inr, refl, sym, ◌≢◌, ◌∙◌, ap, subst, arith}
+use Rattle.std.proofs.lemmas.List.{get_or-set_other, get_or-set_same}
 use mathlib.Core.List.{IsPrefix}
 use Rattle.seize_machine.specs.Machine.State.{State, has, link_at}
 use Rattle.seize_machine.specs.Machine.Event.{Event}
@@ -122,6 +122,11 @@ by_step l size st event d step = inr (link_frame l size st event d step refl)
 -- **It leaves the link as it was, or won an exchange of it.**
 pub won_or_same : (st : State) (log : List Entry) (e l : ℕ) (m : Moment) → IsLegalList st log → slice_get (moments st log) e ≡ Some m → IsWon l m ⊎ (link_at m.after l ≡ link_at m.before l)
 won_or_same st log e l m legal is = by_step l m.timed.size m.before m.timed.event (m.after, m.answer) (is_step st log e m legal is)
+
+-- An exchange leaves the other links as they were.
+pub others_stay : (s l size : ℕ) (x : Exchange) (st : State) (d : State × Answer) → Step size st (Event.ExchangeLink s l x) d → (k : ℕ) → k ≢ l → link_at d.0 k ≡ link_at st k
+others_stay s l size x st _ (Step.exchanged _ _ _ new can fresh exact) k other = get_or-set_other st.links l k new None other
+others_stay s l size x st _ (Step.compared _ _ _ can lost) k other = refl
 
 -- A won exchange puts the new value there, which is named then.
 pub won_puts : (s l size : ℕ) (x : Exchange) (st : State) (d : State × Answer) → Step size st (Event.ExchangeLink s l x) d → is_stored (link_at st l) x ≡ true

@@ -183,10 +183,6 @@ module _ {X : Type 0} where
       go (inl within) = none i within
       go (inr past) = ap is_some (get_or_past slots i None past)
 
-  -- and a slot that is laid in some place
-  pub none_laid : (slots : List (Option X)) (least lower n : ℕ) (item : Option X) → NoneBelow least slots → lower ≤ least → lower ≤ n → NoneBelow lower (slice_set slots n item)
-  none_laid slots least lower n item none below before i less = ap is_some (get_or-set_other slots n i item None (λ same. absurd (omega (arith, less, before, same)))) ∙ none i (omega (arith, less, below))
-
   -- How many lie there, where one comes or goes.
 
   abbrev lies : Option X → ℕ

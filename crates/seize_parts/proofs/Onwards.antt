@@ -24,10 +24,10 @@ use Rattle.seize_parts.specs.Makes.{Makes, MakesNone, MakesOne}
 use Rattle.seize_parts.specs.Rules.{HoldsOf, KeepsSince, Says}
 use Rattle.seize_parts.specs.declared.block.owned.Owned.{Owned}
 use Rattle.seize_parts.proofs.Made.{makes_then}
-use Rattle.seize_parts.proofs.Moments.{is_step, moment_still, no_fewer, won_puts}
+use Rattle.seize_parts.proofs.Moments.{is_step, moment_still, no_fewer, others_stay, won_puts}
 use Rattle.seize_parts.proofs.Ruled.{held_at_last, held_between, held_from, held_through, holds_said, kept_within, since_seen}
 use Rattle.seize_parts.proofs.Stands.{made_since}
-use Rattle.seize_parts.specs.Moments.{StandsSince}
+use Rattle.seize_parts.specs.Moments.{ExchangesOnly, StandsSince}
 
 -- A read answers what the link holds, and so does an exchange.
 
@@ -53,9 +53,9 @@ read_there s l held {p} {q} makes =
     subst (λ (e : Event). Step m.timed.size m.before e (m.after, m.answer)) there.2.2 (is_step (start q.name) q.seen there.0 m makes.legal there.2.1) in
     (m, (there.0, there.1, there.2.1), read_step m.timed.size s l m.before (m.after, m.answer) held step there.2.3)
 
--- **So does a won exchange, after which the link holds what was put there.**
+-- **So does a won exchange, after which the link holds what was put there, and each other link what it held.**
 pub won_there : (s l : ℕ) (held put : Option ℕ) {p q : Pass} → MakesOne p q (ExchangeLink s l (Compare held put)) (Link held)
-    → (m : Moment) × StandsSince p q m × (link_at m.before l ≡ held) × (link_at m.after l ≡ put)
+    → (m : Moment) × StandsSince p q m × (link_at m.before l ≡ held) × (link_at m.after l ≡ put) × ExchangesOnly s l m
 won_there s l held put {p} {q} makes =
     let x : Exchange = Compare held put in
     let there = made_since (ExchangeLink s l x, Link held) makes (inl refl) in let m = there.2.0 in
@@ -63,7 +63,7 @@ won_there s l held put {p} {q} makes =
     subst (λ (e : Event). Step m.timed.size m.before e (m.after, m.answer)) there.2.2 (is_step (start q.name) q.seen there.0 m makes.legal there.2.1) in
     let was : link_at m.before l ≡ held = exchange_step m.timed.size s l x m.before (m.after, m.answer) held step there.2.3 in
     let won : is_stored (link_at m.before l) x ≡ true = subst (λ (o : Option ℕ). same_link o held ≡ true) (sym was) (same_linked held) in
-    (m, (there.0, there.1, there.2.1), was, (won_puts s l m.timed.size x m.before (m.after, m.answer) step won).0)
+    (m, (there.0, there.1, there.2.1), was, (won_puts s l m.timed.size x m.before (m.after, m.answer) step won).0, ((x, there.2.2), others_stay s l m.timed.size x m.before (m.after, m.answer) step))
 
 -- It stands there still as the pass sees more,
 pub still_at : {q r : Pass} {es : List (Event × Answer)} (e : ℕ) (m : Moment) → Makes q r es → slice_get (moments_seen q) e ≡ Some m → slice_get (moments_seen r) e ≡ Some m

@@ -198,9 +198,6 @@ module _ {T : Type 0} where
     pub use_long : length now.slots ≡ length st.slots
     use_long = ap (λ (l : List (ModelSlot T ℕ)). length l) (use_slots st n kind below) ∙ length-set st.slots n (taken_by st kind)
 
-  pub use_size : (st : ModelState T ℕ) (n : ℕ) (kind : Kind) → (with_number_in_use st n kind).size ≡ st.size
-  use_size st n kind = refl
-
   pub full_outline : (st : ModelState T ℕ) (n : ℕ) → outline (attempt_if_full st n).0 ≡ outline st
   full_outline st n = either (λ (o : StateAndGone T ℕ). outline o.0 ≡ outline st) _ _ _ (ap (λ (f : _). f.0) (attempt_frame st n)) refl
 

@@ -26,7 +26,7 @@ impl<'g, T> Shared<'g, T> {
     ghost use Rattle.seize_machine.specs.Machine.History.{Reclaimed};
     ghost use Rattle.seize_parts.specs.Laws.{moments_seen};
     ghost use Rattle.seize_parts.specs.Makes.{MakesNone};
-    ghost use Rattle.seize_parts.specs.Links.{IsSharedIn, shared_block, shared_book, shared_name};
+    ghost use Rattle.seize_parts.specs.Links.{IsSharedIn, shared_block, shared_book, shared_name, shared_value};
 
     /// The pass looks at the list of events. The value is not reclaimed in what it sees then, whoever found it.
     ///
@@ -39,6 +39,14 @@ impl<'g, T> Shared<'g, T> {
         self.lasting.tell(pass);
         pass.slots();
         self.lasting.lasts(pass);
+    }
+
+    /// The value, for as long as the guard that found it is borrowed, or the `Alone`. This may be gone by then.
+    #[inline(always)]
+    pub fn get(&self) -> &'g T
+        ensures { result.now ≡ shared_value self.now }
+    {
+        self.value
     }
 
     // What an exchange expects that takes a link to hold it.
