@@ -1,5 +1,6 @@
 -- What other crates may build on: what an alteration means at one moment of the list of all events.
-use Rattle.std.proofs.Common.{◌≡◌, ℕ, List, Option, Some, None, IfOk, refl, sym, subst}
+use Rattle.std.proofs.Common.{◌≡◌, ◌+◌, ℕ, suc, List, [], ◌∷◌, ◌++◌, length, Option, Some, None, IfOk, option_map, refl, sym, subst, ◌∙◌, arith}
+use Rattle.std.proofs.lemmas.List.{length-append}
 use denote.Bor.{Bor}
 use base.Stored.{Gv}
 use Rattle.core.specs.declared.result.Result.{Result}
@@ -7,17 +8,29 @@ use Rattle.core.specs.declared.result.Result.TheVariants.{Err, Ok}
 use Rattle.seize.specs.Answer.{Answer}
 use Rattle.seize.specs.Answer.TheVariants.{Link}
 use Rattle.seize.specs.Exchange.TheVariants.{Compare}
-use Rattle.seize.specs.Machine.Event.{Event, ExchangeLink}
+use Rattle.seize.specs.Machine.Event.{Event, ExchangeLink, ReadLink}
 use Rattle.seize.specs.Machine.History.{Moment}
 use Rattle.seize.specs.Machine.State.{link_at}
 use Rattle.seize.specs.Makes.{Makes, MakesOne}
 use Rattle.seize.specs.Moments.{ExchangesOnly, StandsSince}
 use Rattle.seize.specs.Rules.{Says}
-use Rattle.seize.proofs.Facts.{earlier_since, makes_then, still_since, won_there}
+use Rattle.seize.specs.Links.{Shows, shared_value}
+use Rattle.seize.proofs.Facts.{earlier_since, makes_then, read_there, still_since, won_there}
 use Rattle.seize_book.specs.declared.book.pass.Pass.{Pass}
+use Rattle.seize_parts.specs.declared.block.shared.Shared.{Shared}
+use Rattle.seize_words.specs.declared.words.Words.{Words}
 use Rattle.seize_atomic.specs.Cells.{RetiresOut}
-use Rattle.seize_atomic.specs.Alters.{AltersCell, IsMadeBy, MayAnswer, TriesCell}
+use Rattle.seize_atomic.specs.Alters.{AltersCell, ChangeNothing, IsMadeBy, MayAnswer, TriesCell}
 use Rattle.seize_atomic.specs.declared.cells.NotAltered.{NotAltered}
+use Rattle.seize_atomic.specs.declared.cells.NotAltered.TheVariants.{Contended}
+use Rattle.seize_atomic.proofs.Trying.{shows_says}
+
+-- **What a read found, the cell holds at a moment of the list, after what the pass had seen before.**
+pub was_read : {T : Type 0} (words : Words T) (code : T → Gv) (s i : ℕ) (held : Option ℕ) (found : Option (Shared T)) {p q : Pass} → MakesOne p q (ReadLink s i) (Link held) → Shows words code held found
+    → (m : Moment) × StandsSince p q m × Says code (link_at m.before i) (option_map shared_value found)
+was_read words code s i held found reads shows =
+    let there = read_there s i held reads in
+    (there.0, there.1, subst (λ (o : Option ℕ). Says code o (option_map shared_value found)) (sym there.2) (shows_says words code held found shows))
 
 module _ {T A E : Type 0} (post : Option (Bor T) → Result (Option T × A) E → Type 0) (code : T → Gv) (s i kind : ℕ) where
   -- a moment between two passes at which the slot exchanges the cell, which has one content before, and after it what the function answers
@@ -82,3 +95,26 @@ module _ {T A E : Type 0} (post : Option (Bor T) → Result (Option T × A) E �
 
   pub alters_make : (tries : ℕ) (pass pass' : Pass) (result : Result A (NotAltered E)) → AltersCell post code s i kind tries pass pass' result → (es : List (Event × Answer)) × Makes pass pass' es
   alters_make tries pass pass' result (first, mid, reads, rest) = with_tries tries first pass mid pass' result rest reads
+
+  -- An alteration that was not made changed nothing.
+
+  nothing_then : (es fs : List (Event × Answer)) → ChangeNothing es → ChangeNothing fs → ChangeNothing (es ++ fs)
+  nothing_then [] fs first then = then
+  nothing_then (e ∷ es) fs first then = (first.0, nothing_then es fs first.1 then)
+
+  lost_tries : (left : ℕ) (found : Option ℕ) (p pass pass' : Pass) (result : Result A (NotAltered E)) (e : NotAltered E) {es : List (Event × Answer)} → result ≡ Err e
+      → TriesCell post code s i kind left found pass pass' result → Makes p pass es → ChangeNothing es
+      → (fs : List (Event × Answer)) × Makes p pass' fs × ChangeNothing fs × (e ≡ Contended → length fs ≡ length es + left)
+  lost_tries _ _ p _ _ _ e {es} is (TriesCell.over _ _) makes none = (es, makes, none, λ _. omega arith)
+  lost_tries _ _ p _ _ _ e {es} is (TriesCell.refused _ _ _ why _) makes none = (es, makes, none, λ lost. absurd (cc))
+  lost_tries _ _ p _ _ _ e {es} is (TriesCell.no_memory _ _ _ _) makes none = (es, makes, none, λ lost. absurd (cc))
+  lost_tries _ _ p _ _ _ e {es} is (TriesCell.lost left found put held a pass mid pass' result by differs made rest) makes none =
+      let then = lost_tries left held p mid pass' result e is rest (makes_then makes made) (nothing_then es _ none (differs, tt)) in
+      (then.0, then.1, then.2, λ lost. then.3 lost ∙ omega (arith, length-append es ((ExchangeLink s i (Compare found put), Link held) ∷ [])))
+  lost_tries _ _ p _ _ _ e is (TriesCell.won left found put a pass mid pass' by made retired) makes none = absurd (cc)
+
+  -- **Where it was not made, it made a read, and exchanges that were lost: as many as may be tried, where it was `Contended`.**
+  pub not_altered : (tries : ℕ) (pass pass' : Pass) (e : NotAltered E) → AltersCell post code s i kind tries pass pass' (Err e)
+      → (es : List (Event × Answer)) × Makes pass pass' es × ChangeNothing es × (e ≡ Contended → length es ≡ suc tries)
+  not_altered tries pass pass' e (first, mid, reads, rest) =
+      let then = lost_tries tries first pass mid pass' (Err e) e refl rest reads (tt, tt) in (then.0, then.1, then.2, λ lost. then.3 lost ∙ omega arith)

@@ -1,0 +1,34 @@
+-- What lies in a bucket. `is` tells whether a key is the one that is asked for.
+--     entries_of arcs           the entries that are counted
+--     entries_in bucket         those of a bucket, or none where there is no bucket
+--     entry_under is es         the first entry of that key;  other_entries is es     the entries of the other keys
+--     value_in eq bucket key     what the bucket has under the key, if anything
+--     Replaces eq key new before made     what was made is a bucket with this entry, or none, in the place of that of the key, and that one
+use Rattle.std.specs.Prelude.{◌≡◌, ◌++◌, Bool, not, filter, map, List, [], Option, None, Some, option_map, option_to_list}
+use Rattle.std.specs.List.{find}
+use Rattle.std_alloc.specs.Arc.{arc_value}
+use Rattle.std_alloc.specs.declared.arc.Arc.{Arc}
+use Rattle.seize_map.specs.declared.bucket.Bucket.{Bucket}
+use Rattle.seize_map.specs.declared.bucket.Entry.{Entry}
+
+module _ {K V : Type 0} where
+  abbrev pub entries_of : {Z : Type 0} → List (Arc (Entry K V) Z) → List (Entry K V)
+  entries_of arcs = map arc_value arcs
+
+  abbrev pub entry_under : (K → Bool) → List (Entry K V) → Option (Entry K V)
+  entry_under is es = find (λ e. is e.key) es
+
+  abbrev pub other_entries : (K → Bool) → List (Entry K V) → List (Entry K V)
+  other_entries is es = filter (λ e. not (is e.key)) es
+
+  abbrev pub entries_in : Option (Bucket K V) → List (Entry K V)
+  entries_in (Some bucket) = entries_of bucket.entries.items
+  entries_in None = []
+
+  abbrev pub Replaces : {Z : Type 0} → (K → K → Bool) → K → Option (Entry K V) → Option (Bucket K V) → Option (Bucket K V) × Option (Arc (Entry K V) Z) → Type 0
+  Replaces eq key new before made =
+      (entries_in made.0 ≡ other_entries (eq key) (entries_in before) ++ option_to_list new)
+      × (option_map arc_value made.1 ≡ entry_under (eq key) (entries_in before))
+
+  abbrev pub value_in : (K → K → Bool) → Option (Bucket K V) → K → Option V
+  value_in eq bucket key = option_map (λ (entry : Entry K V). entry.value) (entry_under (eq key) (entries_in bucket))

@@ -1,0 +1,119 @@
+//! A map in one thread's hands.
+ghost use Rattle.std.specs.Prelude.{◌≡◌};
+ghost use Rattle.seize.specs.Collectors.{IsPassOf, its_words};
+ghost use Rattle.seize.specs.Guards.{owned_collector};
+ghost use Rattle.seize_map.specs.Maps.{IsForMap, map_collector};
+
+use seize::{IdSource, OwnedGuard, Pass, Refusal};
+use seize_map::{Bucket, Entry, HashMap, NotChanged};
+use std::alloc::Global;
+use std::hash::{BuildHasherDefault, DefaultHasher};
+use std::sync::{Arc, Wait};
+use std::test::Fail;
+
+type Hasher = BuildHasherDefault<DefaultHasher>;
+
+type Map = HashMap<u64, u64, Hasher>;
+
+type Guard<'c> = OwnedGuard<'c, Bucket<u64, u64>>;
+
+// The value of what came out.
+fn value(entry: Option<Arc<Entry<u64, u64>>>) -> Option<u64> {
+    entry.map(|entry| entry.value)
+}
+
+// What three insertions, two of one key, and three removals give, and what is found between them.
+type Told = ([Option<u64>; 3], [Option<u64>; 3], [Option<u64>; 3], [Option<u64>; 3]);
+
+fn found(map: &Map, guard: &Guard<'_>, pass: &mut Pass) -> [Option<u64>; 3]
+    requires of { IsForMap map.now (owned_collector guard.now) pass.old }
+    ensures pass { IsPassOf (owned_collector guard.now) pass.new }
+{
+    let one = map.get(guard, &1, pass).copied();
+    let two = map.get(guard, &2, pass).copied();
+    let three = map.get(guard, &3, pass).copied();
+    [one, two, three]
+}
+
+fn tell<W: Wait>(
+    rt: &W,
+    map: &Map,
+    guard: &Guard<'_>,
+    pass: &mut Pass,
+) -> Result<Told, NotChanged>
+    requires of { IsForMap map.now (owned_collector guard.now) pass.old }
+    ensures pass { IsPassOf (owned_collector guard.now) pass.new }
+{
+    let first = value(map.insert(rt, guard, 1, 10, 1, pass)?);
+    let second = value(map.insert(rt, guard, 2, 20, 1, pass)?);
+    let third = value(map.insert(rt, guard, 1, 11, 1, pass)?);
+    let full = found(map, guard, pass);
+    let one = value(map.remove(rt, guard, &1, 1, pass)?);
+    let again = value(map.remove(rt, guard, &1, 1, pass)?);
+    let three = value(map.remove(rt, guard, &3, 1, pass)?);
+    let left = found(map, guard, pass);
+    Ok(([first, second, third], full, [one, again, three], left))
+}
+
+fn told<W: Wait>(rt: &W, alloc: Global, buckets: usize) -> Result<Result<Told, NotChanged>, Refusal> {
+    let map: Map = HashMap::new(
+        alloc,
+        &mut IdSource::new(),
+        1,
+        buckets.saturating_add(1),
+        BuildHasherDefault::new(),
+    )?;
+    let mut pass = map.collector().pass();
+    let guard = map.collector().enter_owned(rt, &mut pass)?;
+    let told = tell(rt, &map, &guard, &mut pass);
+    guard.leave(rt, &mut pass);
+    Ok(told)
+}
+
+// What the calls of `tell` are to give.
+const EXPECTED: Told = (
+    [None, None, Some(10)],
+    [Some(11), Some(20), None],
+    [Some(11), None, None],
+    [None, Some(20), None],
+);
+
+// All keys lie in one bucket, or each in one of many.
+#[test]
+fn an_insertion_gives_what_it_replaced(rt: HostRuntime) -> Result<(), Fail> {
+    assert!(rt; told(&rt, rt.alloc(), 0)? == Ok(EXPECTED));
+    assert!(rt; told(&rt, rt.alloc(), 63)? == Ok(EXPECTED));
+    Ok(())
+}
+
+// With no try left nothing goes in.
+fn not_tried<W: Wait>(
+    rt: &W,
+    map: &Map,
+    guard: &Guard<'_>,
+    pass: &mut Pass,
+) -> (bool, bool, [Option<u64>; 3])
+    requires of { IsForMap map.now (owned_collector guard.now) pass.old }
+    ensures pass { IsPassOf (owned_collector guard.now) pass.new }
+{
+    let put = matches!(map.insert(rt, guard, 1, 10, 0, pass), Err(NotChanged::Contended));
+    let taken = matches!(map.remove(rt, guard, &1, 0, pass), Err(NotChanged::Contended));
+    (put, taken, found(map, guard, pass))
+}
+
+#[test]
+fn no_try_changes_nothing(rt: HostRuntime) -> Result<(), Fail> {
+    let map: Map = HashMap::new(
+        rt.alloc(),
+        &mut IdSource::new(),
+        1,
+        1,
+        BuildHasherDefault::new(),
+    )?;
+    let mut pass = map.collector().pass();
+    let guard = map.collector().enter_owned(&rt, &mut pass)?;
+    let told = not_tried(&rt, &map, &guard, &mut pass);
+    guard.leave(&rt, &mut pass);
+    assert!(rt; told == (true, true, [None, None, None]));
+    Ok(())
+}

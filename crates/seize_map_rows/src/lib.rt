@@ -1,0 +1,9 @@
+//! Tests of the map: what one thread finds, what several threads put in, and that each entry ends once.
+#![tactic(auto)]
+
+#[cfg(test)]
+mod alone;
+#[cfg(test)]
+mod ends;
+#[cfg(test)]
+mod threads;
