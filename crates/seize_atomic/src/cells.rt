@@ -61,6 +61,13 @@ impl<'c, T: Drop, C: Home<T>> Cells<'c, T, C> {
     ghost use Rattle.seize_atomic.specs.Cells.{IsForCell, PutsCell, ReplacesCell, RetiresOut, cells_home, cells_kind, out_name};
     ghost use Rattle.seize_atomic.specs.Alters.{AltersCell, MayHold, plain};
 
+    /// Their collector.
+    pub fn collector(&self) -> &'c C
+        ensures { result.now ≡ cells_home self.now }
+    {
+        self.home
+    }
+
     /// The same cells, whose calls retire what they take out as of this kind. `self` stays as it is.
     pub fn of_kind(&self, kind: u64) -> Cells<'c, T, C>
         ensures collector { cells_home result ≡ cells_home self.now }

@@ -1,27 +1,44 @@
--- What the map has after a bucket took the place of another: under the key what was put there, and else what it had.
-use Rattle.std.proofs.Common.{◌≡◌, ◌==◌, ◌≢◌, ◌%◌, ◌⊎◌, inl, inr, ℕ, List, Bool, true, false, cond, Option, None, Some, option_map, refl, ap, sym, ◌∙◌, subst}
+-- What the map has when a bucket is read, and after a bucket took the place of another: under the key what was put there, and else what it had.
+use Rattle.std.proofs.Common.{◌≡◌, ◌==◌, ◌≢◌, ◌%◌, ◌⊎◌, inl, inr, ℕ, List, Bool, true, false, cond, IfOk, IsErr, option_copied, Option, None, Some, option_map, refl, ap, sym, ◌∙◌, subst}
 use Rattle.std.proofs.lemmas.Bool.{eq-eqb, eqb-true}
-use base.Stored.{Coded}
+use denote.Bor.{Bor}
+use base.Stored.{Coded, Gv}
 use Rattle.std_alloc.specs.Arc.{arc_value}
 use Rattle.std_alloc.specs.declared.arc.Arc.{Arc}
 use Rattle.core.specs.Cmp.{IsEquivalence}
+use Rattle.core.specs.Result.{is_err}
+use Rattle.core.specs.declared.result.Result.{Result}
+use Rattle.core.specs.declared.result.Result.TheVariants.{Err, Ok}
 use Rattle.core.specs.List.{fold}
 use Rattle.core.specs.declared.cmp.PartialEq as eq
 use Rattle.core.specs.declared.hash.Hash as hash
 use Rattle.core.specs.declared.hash.Hasher as hasher
 use Rattle.core.specs.declared.hash.build.BuildHasher as builder
-use Rattle.seize.specs.Collectors.{its_links, its_words}
+use Rattle.seize.specs.Collectors.{its_links}
+use Rattle.seize.specs.Answer.TheVariants.{Link}
+use Rattle.seize.specs.Links.{Shows, shared_value}
+use Rattle.seize.specs.Machine.Event.{ReadLink}
 use Rattle.seize.specs.Machine.History.{Moment}
 use Rattle.seize.specs.Machine.State.{State, link_at}
+use Rattle.seize.specs.Makes.{MakesOne}
 use Rattle.seize.specs.Moments.{ExchangesOnly, StandsSince}
 use Rattle.seize.specs.Rules.{Says}
 use Rattle.seize.proofs.Facts.{says_once}
 use Rattle.seize_book.specs.declared.book.pass.Pass.{Pass}
+use Rattle.seize_parts.specs.declared.block.shared.Shared.{Shared}
+use Rattle.seize_parts.specs.declared.parts.Home as home
+use Rattle.seize_words.specs.declared.words.Words.{Words}
+use Rattle.seize_atomic.specs.Alters.{AltersCell}
+use Rattle.seize_atomic.specs.declared.cells.NotAltered.{NotAltered}
+use Rattle.seize_atomic.specs.declared.cells.NotAltered.TheVariants.{Contended as all_lost}
+use Rattle.seize_atomic.proofs.Facts.{altered, not_altered, was_read}
 use Rattle.seize_map.specs.Buckets.{Replaces, entries_in, entry_under, value_in}
-use Rattle.seize_map.specs.Maps.{Changes, ChangesAt, Has, map_collector, place_of}
+use Rattle.seize_map.specs.Maps.{Changes, ChangesAt, Has, IsRefused, map_words, place_of}
 use Rattle.seize_map.specs.declared.bucket.Bucket.{Bucket}
 use Rattle.seize_map.specs.declared.bucket.Entry.{Entry}
 use Rattle.seize_map.specs.declared.map.HashMap.{HashMap}
+use Rattle.seize_map.specs.declared.map.NotChanged.{NotChanged}
+use Rattle.seize_map.specs.declared.map.NotChanged.TheVariants.{Contended as contended}
 use Rattle.seize_map.proofs.Lookups.{changed}
 
 cases_eq : (a b : ℕ) → (a ≡ b) ⊎ (a ≢ b)
@@ -32,7 +49,7 @@ cases_eq a b = go (a == b) refl
     go false differs = inr (λ same. absurd (let no : true ≡ false = sym (eq-eqb a b same) ∙ differs in cc))
 
 module _ {K V : Type 0} where
-  through_arc : {Z : Type 0} (was : Option (Arc (Entry K V) Z)) → option_map (λ e. e.value) (option_map arc_value was) ≡ option_map (λ a. (arc_value a).value) was
+  through_arc : {Z : Type 0} (was : Option (Arc (Entry K V) Z)) → option_map (λ (e : Entry K V). e.value) (option_map arc_value was) ≡ option_map (λ (a : Arc (Entry K V) Z). (arc_value a).value) was
   through_arc (Some a) = refl
   through_arc None = refl
 
@@ -40,49 +57,88 @@ module _ {K V : Type 0} where
   through_cond true new found = refl
   through_cond false new found = refl
 
-module _ {K V Z S H : Type 0} {k : hash.Ghosts K} {e : eq.Ghosts K} {b : builder.Ghosts S H} {h : hasher.Ghosts H} (map : HashMap K V S H k e b h) (laws : IsEquivalence e.eq)
-    (alike : (x y : K) → e.eq x y ≡ true → k.hash_input x ≡ k.hash_input y) (coded : Coded (Bucket K V)) (key : K) (new : Option (Entry K V)) (its : (x : Entry K V) → new ≡ Some x → x.key ≡ key)
-    (before : Option (Bucket K V)) (made : Option (Bucket K V) × Option (Arc (Entry K V) Z)) (replaces : Replaces e.eq key new before made) where
+-- **What a read found, the map has at the moment of the read.**
+pub read_has : {K V S C H : Type 0} {k : hash.Ghosts K} {e : eq.Ghosts K} {b : builder.Ghosts S H} {h : hasher.Ghosts H} {c : home.Ghosts C (Bucket K V)} (map : HashMap K V S C H k e b h c) (words : Words (Bucket K V))
+    (code : Bucket K V → Gv) (s l : ℕ) (key : K) (y : Option V) (held : Option ℕ) (found : Option (Shared (Bucket K V))) {p q : Pass} → MakesOne p q (ReadLink s l) (Link held) → Shows words code held found
+    → l ≡ place_of map key → value_in e.eq (option_map shared_value found) key ≡ y → (m : Moment) × StandsSince p q m × Has map code m.before key y
+read_has map words code s l key y held found reads shows place is =
+    let there = was_read words code s l held found reads shows in
+    (there.0, there.1, (option_map shared_value found, subst (λ (n : ℕ). Says code (link_at there.0.before n) (option_map shared_value found)) place there.2, is))
+
+module _ {K V S C H : Type 0} {k : hash.Ghosts K} {e : eq.Ghosts K} {b : builder.Ghosts S H} {h : hasher.Ghosts H} {c : home.Ghosts C (Bucket K V)} (map : HashMap K V S C H k e b h c) (laws : IsEquivalence e.eq)
+    (alike : (x y : K) → e.eq x y ≡ true → k.hash_input x ≡ k.hash_input y) (coded : Coded (Bucket K V)) (key : K) (new : Option (Entry K V)) (its : (x : Entry K V) → new ≡ Some x → x.key ≡ key) where
   abbrev place : K → ℕ
   place = place_of map
 
   abbrev put : Option V
   put = option_map (λ (x : Entry K V). x.value) new
 
-  -- what the new bucket has under a key
-  in_made : (q : K) → value_in e.eq made.0 q ≡ cond (e.eq key q) put (value_in e.eq before q)
-  in_made q = ap (option_map (λ (x : Entry K V). x.value)) (changed e.eq laws key new (entries_in before) (entries_in made.0) its replaces.0 q) ∙ through_cond (e.eq key q) new (entry_under (e.eq q) (entries_in before))
+  module _ {Z : Type 0} (before : Option (Bucket K V)) (made : Option (Bucket K V) × Option (Arc (Entry K V) Z)) (replaces : Replaces e.eq key new before made) where
+    -- what the new bucket has under a key
+    in_made : (q : K) → value_in e.eq made.0 q ≡ cond (e.eq key q) put (value_in e.eq before q)
+    in_made q = ap (option_map (λ (x : Entry K V). x.value)) (changed e.eq laws key new (entries_in before) (entries_in made.0) its replaces.0 q) ∙ through_cond (e.eq key q) new (entry_under (e.eq q) (entries_in before))
 
-  -- what the old one had under the key came out
-  was_there : value_in e.eq before key ≡ option_map (λ (a : Arc (Entry K V) Z). (arc_value a).value) made.1
-  was_there = ap (option_map (λ (x : Entry K V). x.value)) (sym replaces.1) ∙ through_arc made.1
+    -- what the old one had under the key came out
+    was_there : value_in e.eq before key ≡ option_map (λ (a : Arc (Entry K V) Z). (arc_value a).value) made.1
+    was_there = ap (option_map (λ (x : Entry K V). x.value)) (sym replaces.1) ∙ through_arc made.1
 
-  -- a key that lies elsewhere is another one
-  same_place : (q : K) → e.eq key q ≡ true → place key ≡ place q
-  same_place q same = ap (λ (w : List (List ℕ)). h.finish (fold h.write (b.build_hasher map.hasher) w) % its_links (its_words (map_collector map))) (alike key q same)
+    -- a key that lies elsewhere is another one
+    same_place : (q : K) → e.eq key q ≡ true → place key ≡ place q
+    same_place q same = ap (λ (w : List (List ℕ)). h.finish (fold h.write (b.build_hasher map.hasher) w) % its_links (map_words map)) (alike key q same)
 
-  elsewhere : (q : K) → place q ≢ place key → (same : Bool) → e.eq key q ≡ same → same ≡ false
-  elsewhere q other true is = absurd (other (sym (same_place q is)))
-  elsewhere q other false is = refl
+    elsewhere : (q : K) → place q ≢ place key → (same : Bool) → e.eq key q ≡ same → same ≡ false
+    elsewhere q other true is = absurd (other (sym (same_place q is)))
+    elsewhere q other false is = refl
 
-  pub changes : (st st' : State) → Says coded.code (link_at st (place key)) before → Says coded.code (link_at st' (place key)) made.0 → ((l : ℕ) → l ≢ place key → link_at st' l ≡ link_at st l)
-      → Changes map coded.code st st' key put
-  changes st st' was is others q z has = go (cases_eq (place q) (place key))
-    where
-      go : (place q ≡ place key) ⊎ (place q ≢ place key) → Has map coded.code st' q (cond (e.eq key q) put z)
-      go (inl at) =
-          let old : has.0 ≡ before = says_once coded (link_at st (place key)) has.0 before (subst (λ (l : ℕ). Says coded.code (link_at st l) has.0) at has.1) was in (
-            made.0,
-            subst (λ (l : ℕ). Says coded.code (link_at st' l) made.0) (sym at) is,
-            in_made q ∙ ap (λ (o : Option V). cond (e.eq key q) put o) (ap (λ (x : Option (Bucket K V)). value_in e.eq x q) (sym old) ∙ has.2),
-          )
-      go (inr other) = (
-        has.0,
-        subst (λ (o : Option ℕ). Says coded.code o has.0) (sym (others (place q) other)) has.1,
-        has.2 ∙ sym (ap (λ (same : Bool). cond same put z) (elsewhere q other (e.eq key q) refl)),
-      )
+    pub changes : (st st' : State) → Says coded.code (link_at st (place key)) before → Says coded.code (link_at st' (place key)) made.0 → ((l : ℕ) → l ≢ place key → link_at st' l ≡ link_at st l)
+        → Changes map coded.code st st' key put
+    changes st st' was is others q z has = go (cases_eq (place q) (place key))
+      where
+        go : (place q ≡ place key) ⊎ (place q ≢ place key) → Has map coded.code st' q (cond (e.eq key q) put z)
+        go (inl at) =
+            let old : has.0 ≡ before = says_once coded (link_at st (place key)) has.0 before (subst (λ (l : ℕ). Says coded.code (link_at st l) has.0) at has.1) was in (
+              made.0,
+              subst (λ (l : ℕ). Says coded.code (link_at st' l) made.0) (sym at) is,
+              in_made q ∙ ap (λ (o : Option V). cond (e.eq key q) put o) (ap (λ (x : Option (Bucket K V)). value_in e.eq x q) (sym old) ∙ has.2),
+            )
+        go (inr other) = (
+          has.0,
+          subst (λ (o : Option ℕ). Says coded.code o has.0) (sym (others (place q) other)) has.1,
+          has.2 ∙ sym (ap (λ (same : Bool). cond same put z) (elsewhere q other (e.eq key q) refl)),
+        )
 
-  -- **So an alteration of the bucket is a change of the map at its moment.**
-  pub changed_at : (s : ℕ) (pass pass' : Pass) (m : Moment) → StandsSince pass pass' m → Says coded.code (link_at m.before (place key)) before → Says coded.code (link_at m.after (place key)) made.0
-      → ExchangesOnly s (place key) m → ChangesAt map coded.code s pass pass' key put made.1
-  changed_at s pass pass' m since was is only = (m, since, only, (before, was, was_there), changes m.before m.after was is only.1)
+    -- **So an alteration of the bucket is a change of the map at its moment.**
+    pub changed_at : (s : ℕ) (pass pass' : Pass) (m : Moment) → StandsSince pass pass' m → Says coded.code (link_at m.before (place key)) before → Says coded.code (link_at m.after (place key)) made.0
+        → ExchangesOnly s (place key) m → ChangesAt map coded.code s pass pass' key put made.1
+    changed_at s pass pass' m since was is only = (m, since, only, (before, was, was_there), changes m.before m.after was is only.1)
+
+    pub altered_at : (l s : ℕ) (pass pass' : Pass) (m : Moment) → l ≡ place key → StandsSince pass pass' m → Says coded.code (link_at m.before l) before → Says coded.code (link_at m.after l) made.0
+        → ExchangesOnly s l m → ChangesAt map coded.code s pass pass' key put made.1
+    altered_at l s pass pass' m at since was is only =
+        changed_at s pass pass' m since (subst (λ (n : ℕ). Says coded.code (link_at m.before n) before) at was) (subst (λ (n : ℕ). Says coded.code (link_at m.after n) made.0) at is)
+        (subst (λ (n : ℕ). ExchangesOnly s n m) at only)
+
+  at_ok : {A E : Type 0} (P : A → Type 0) (result : Result A E) → IfOk result P → (a : A) → result ≡ Ok a → P a
+  at_ok P (Ok a) holds b is = subst P (let same : a ≡ b = cc in same) holds
+  at_ok P (Err e) holds b is = absurd (cc)
+
+  module _ {Z E : Type 0} (post : Option (Bor (Bucket K V)) → Result (Option (Bucket K V) × Option (Arc (Entry K V) Z)) E → Type 0)
+      (gives : (x : Option (Bor (Bucket K V))) (y : Option (Bucket K V)) (a : Option (Arc (Entry K V) Z)) → post x (Ok (y, a)) → Replaces e.eq key new (option_copied x) (y, a))
+      (l s kind tries : ℕ) (at : l ≡ place key) (pass pass' : Pass) (result : Result (Option (Arc (Entry K V) Z)) (NotAltered E)) (alters : AltersCell post coded.code s l kind tries pass pass' result) where
+    -- an alteration that was made
+    pub alters_map : (a : Option (Arc (Entry K V) Z)) → result ≡ Ok a → ChangesAt map coded.code s pass pass' key put a
+    alters_map a is =
+        let t = at_ok _ result (altered post coded.code s l kind tries pass pass' result alters) a is in
+        let x = t.2.0 in let y = t.2.1 in let answers = t.2.2 in
+        let replaces : Replaces e.eq key new x (y, a) = subst (λ (b : Option (Bucket K V)). Replaces e.eq key new b (y, a)) answers.1 (gives answers.0 y a answers.2) in
+        altered_at x (y, a) replaces l s pass pass' t.0 at t.1 t.2.3 t.2.4 t.3
+
+    -- and one that was not
+    pub refuses_map : (why : NotChanged) → IsErr result → (why ≡ contended → result ≡ Err all_lost) → IsRefused tries pass pass' why
+    refuses_map why is lost = go result refl
+      where
+        go : (r : Result (Option (Arc (Entry K V) Z)) (NotAltered E)) → result ≡ r → IsRefused tries pass pass' why
+        go (Ok a) same = absurd (let no : false ≡ true = sym (ap is_err same) ∙ is in cc)
+        go (Err e) same =
+            let made = not_altered post coded.code s l kind tries pass pass' e (subst (AltersCell post coded.code s l kind tries pass pass') same alters) in
+            inr (made.0, made.1, made.2, λ w. made.3 (let both : Err e ≡ Err all_lost = sym same ∙ lost w in cc))

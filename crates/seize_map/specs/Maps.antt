@@ -1,5 +1,5 @@
 -- The map that the links of a collector show, in a state of the list of all events. `code` is the code of a bucket.
---     map_collector map         its collector
+--     map_home map              its collector;  map_words map     the words of that
 --     IsForMap map words pass     these are the words of its collector, and the pass is one of it
 --     place_of map key          the bucket in which the key lies: its hash, modulo the number of buckets
 --     Has map code st key y     in this state the map has y under the key, or nothing
@@ -18,18 +18,18 @@ use Rattle.core.specs.declared.hash.build.BuildHasher as builder
 use Rattle.std_alloc.specs.Arc.{arc_value}
 use Rattle.std_alloc.specs.declared.arc.Arc.{Arc}
 use Rattle.seize.specs.Answer.{Answer}
-use Rattle.seize.specs.Collectors.{IsPassOf, its_links, its_words}
+use Rattle.seize.specs.Collectors.{IsPassOf, its_links}
 use Rattle.seize.specs.Machine.Event.{Event}
 use Rattle.seize.specs.Machine.History.{Moment}
 use Rattle.seize.specs.Machine.State.{State, link_at}
 use Rattle.seize.specs.Makes.{Makes}
 use Rattle.seize.specs.Moments.{ExchangesOnly, StandsSince}
 use Rattle.seize.specs.Rules.{Says}
-use Rattle.seize.specs.declared.collector.Collector.{Collector}
 use Rattle.seize_book.specs.declared.book.pass.Pass.{Pass}
-use Rattle.seize_parts.specs.declared.reclaim.Boxed.{Boxed}
+use Rattle.seize_parts.specs.declared.parts.Home as home
 use Rattle.seize_words.specs.declared.words.Words.{Words}
 use Rattle.seize_atomic.specs.Alters.{ChangeNothing}
+use Rattle.seize_atomic.specs.Cells.{cells_home}
 use Rattle.seize_map.specs.Buckets.{value_in}
 use Rattle.seize_map.specs.declared.bucket.Bucket.{Bucket}
 use Rattle.seize_map.specs.declared.bucket.Entry.{Entry}
@@ -37,15 +37,18 @@ use Rattle.seize_map.specs.declared.map.HashMap.{HashMap}
 use Rattle.seize_map.specs.declared.map.NotChanged.{NotChanged}
 use Rattle.seize_map.specs.declared.map.NotChanged.TheVariants.{Contended, NoMemory}
 
-module _ {K V S H : Type 0} {k : hash.Ghosts K} {e : eq.Ghosts K} {b : builder.Ghosts S H} {h : hasher.Ghosts H} (map : HashMap K V S H k e b h) where
-  abbrev pub map_collector : Collector (Bucket K V) Boxed
-  map_collector = map.collector
+module _ {K V S C H : Type 0} {k : hash.Ghosts K} {e : eq.Ghosts K} {b : builder.Ghosts S H} {h : hasher.Ghosts H} {c : home.Ghosts C (Bucket K V)} (map : HashMap K V S C H k e b h c) where
+  abbrev pub map_home : C
+  map_home = cells_home map.cells
+
+  abbrev pub map_words : Words (Bucket K V)
+  map_words = c.its_words map_home
 
   abbrev pub IsForMap : Words (Bucket K V) → Pass → Type 0
-  IsForMap words pass = (words ≡ its_words map_collector) × IsPassOf words pass
+  IsForMap words pass = (words ≡ map_words) × IsPassOf words pass
 
   abbrev pub place_of : K → ℕ
-  place_of key = h.finish (fold h.write (b.build_hasher map.hasher) (k.hash_input key)) % its_links (its_words map_collector)
+  place_of key = h.finish (fold h.write (b.build_hasher map.hasher) (k.hash_input key)) % its_links map_words
 
   module _ (code : Bucket K V → Gv) where
     abbrev pub Has : State → K → Option V → Type 0

@@ -2,7 +2,11 @@
 #![tactic(auto)]
 
 mod bucket;
-mod map;
+pub mod map;
 
 pub use bucket::{Bucket, Entry};
-pub use map::{HashMap, NotChanged};
+pub use map::NotChanged;
+use seize::{Boxed, Collector};
+
+/// A map that threads share, on the links of a collector. Code over any `G: Guard<Bucket<K, V>>` takes `map::HashMap<'_, K, V, S, G::At>`.
+pub type HashMap<'c, K, V, S, R = Boxed> = map::HashMap<'c, K, V, S, Collector<Bucket<K, V>, R>>;

@@ -1,26 +1,31 @@
 //! The map: one cell for each bucket, and each call one read or one alteration of the cell in which its key lies. So a call has one moment
 //! of the list of all events, at which the whole map is what its contract says.
-ghost use Rattle.std.specs.Prelude.{◌≡◌, ◌<◌, Err, IfErr, IfOk, IsErr, Ok};
-ghost use Rattle.seize.specs.Collectors.{its_links, its_words};
+ghost use Rattle.std.specs.Prelude.{◌≡◌, ◌<◌, Err, IfErr, IfOk, IsErr, Ok, option_copied, option_map};
+ghost use Rattle.std_alloc.specs.Arc.{arc_value};
+ghost use Rattle.seize.specs.Links.{shared_value};
+ghost use Rattle.seize_map.specs.Buckets.{value_of};
+ghost use Rattle.seize.specs.Collectors.{its_links};
+ghost use Rattle.seize_atomic.specs.Cells.{cells_home};
 ghost use Rattle.seize_atomic.specs.declared.cells.NotAltered.TheVariants.{Contended as all_lost};
 ghost use Rattle.seize_map.specs.declared.map.NotChanged.TheVariants.{Contended as contended};
 
 use crate::bucket::{self, Bucket, Entry, entries, find};
-use seize::{Boxed, Collector, Guard, IdSource, Pass, Refusal, Shared};
-use seize_atomic::{Cells, NotAltered};
+use seize::{Collector, Guard, Home, Pass, Reclaim, Shared};
+use seize_atomic::NotAltered;
+use seize_atomic::cells::Cells;
 use std::alloc::{AllocError, Global};
 use std::hash::{BuildHasher, Hash};
 use std::sync::{Arc, Wait};
 
-/// A map that threads share, with a fixed number of buckets. Its readers take no lock, and wait for nobody.
+/// A map that threads share: the links of a collector, as so many buckets. Its readers take no lock, and wait for nobody.
 ///
-/// Whoever reads or changes it has a guard of its collector. What a change takes out is retired, and reclaimed once no guard can read it.
+/// Whoever reads or changes it has a guard of the collector. What a change takes out is retired, and reclaimed once no guard can read it.
 #[derive(Drop)]
-pub struct HashMap<K: Hash + Drop, V: Drop, S: BuildHasher + Drop> {
-    pub(crate) collector: Collector<Bucket<K, V>>,
+pub struct HashMap<'c, K: Hash + Drop, V: Drop, S: BuildHasher + Drop, C: Home<Bucket<K, V>>> {
+    pub(crate) cells: Cells<'c, Bucket<K, V>, C>,
     pub(crate) hasher: S,
     pub(crate) alloc: Global,
-    ghost some: { 0 < its_links (its_words collector) },
+    ghost some: { 0 < its_links (C.its_words (cells_home cells)) },
 }
 
 /// Why the map was not changed.
@@ -32,63 +37,69 @@ pub enum NotChanged {
     Contended,
 }
 
-impl<K: Hash + Drop, V: Drop, S: BuildHasher + Drop> HashMap<K, V, S> {
-    ghost use Rattle.std.specs.Prelude.{None, Some, option_copied};
-    ghost use Rattle.std_alloc.specs.Arc.{arc_value};
-    ghost use Rattle.seize.specs.Collectors.{BeginsEmpty, IsPassOf};
-    ghost use Rattle.seize.specs.Machine.History.{Moment};
-    ghost use Rattle.seize.specs.Moments.{StandsSince};
-    ghost use Rattle.seize_map.specs.Buckets.{Replaces};
-    ghost use Rattle.seize_map.specs.Maps.{ChangesAt, Has, IsForMap, IsRefused, map_collector, place_of};
-    ghost use Rattle.seize_map.specs.contracts.bucket.Bucket.{the_row};
+impl<'c, K: Hash + Drop, V: Drop, S: BuildHasher + Drop, R: Reclaim<Bucket<K, V>>> HashMap<
+    'c,
+    K,
+    V,
+    S,
+    Collector<Bucket<K, V>, R>,
+> {
+    ghost use Rattle.seize.specs.Collectors.{its_words};
+    ghost use Rattle.seize_map.specs.Maps.{map_home};
 
-    /// An empty map with so many buckets, each a link of its collector.
+    /// The map of this collector: its bucket i is link i. It is empty where the links are.
     ///
-    /// # Errors
-    ///
-    /// Those of `Collector::new`.
+    /// It takes no memory. `alloc` is for what changes ask for.
     pub fn new(
+        collector: &'c Collector<Bucket<K, V>, R>,
         alloc: Global,
-        ids: &mut IdSource,
-        processors: usize,
-        buckets: usize,
         hasher: S,
-    ) -> Result<HashMap<K, V, S>, Refusal>
-        requires some { 0 < buckets }
-        ensures made { IfOk result (λ map. BeginsEmpty (map_collector map) buckets) }
+    ) -> HashMap<'c, K, V, S, Collector<Bucket<K, V>, R>>
+        requires some { 0 < its_links (its_words collector.now) }
+        ensures { map_home result ≡ collector.now }
     {
-        let collector = Collector::new(alloc, ids, processors, buckets)?;
-        Ok(HashMap {
-            collector,
+        HashMap {
+            cells: Cells::new(collector),
             hasher,
             alloc,
-        })
+        }
     }
+}
+
+impl<'c, K: Hash + Drop, V: Drop, S: BuildHasher + Drop, C: Home<Bucket<K, V>>> HashMap<
+    'c,
+    K,
+    V,
+    S,
+    C,
+> {
+    ghost use Rattle.std.specs.Prelude.{None, Some};
+    ghost use Rattle.seize.specs.Collectors.{IsPassOf, its_store};
+    ghost use Rattle.seize.specs.Machine.History.{Moment};
+    ghost use Rattle.seize.specs.Moments.{StandsSince};
+    ghost use Rattle.seize_map.specs.Buckets.{MayReplace, Replaces};
+    ghost use Rattle.seize_map.specs.Maps.{ChangesAt, Has, IsForMap, IsRefused, map_home, map_words, place_of};
+    ghost use Rattle.seize_map.specs.contracts.bucket.Bucket.{the_row};
 
     /// Its collector, by which threads register, and get guards and passes.
-    pub fn collector(&self) -> &Collector<Bucket<K, V>>
-        ensures { result.now ≡ map_collector self.now }
+    pub fn collector(&self) -> &'c C
+        ensures { result.now ≡ map_home self.now }
     {
-        &self.collector
+        self.cells.collector()
     }
 
     // The bucket of a key.
     fn place(&self, key: &K) -> usize
         ensures place { result ≡ place_of self.now key.now }
-        ensures there { result < its_links (its_words (map_collector self.now)) }
+        ensures there { result < its_links (map_words self.now) }
     {
-        (self.hasher.hash_one(key) % self.collector.links() as u64) as usize
-    }
-
-    // Its buckets.
-    fn cells(&self) -> Cells<'_, Bucket<K, V>> {
-        Cells::new(&self.collector)
+        (self.hasher.hash_one(key) % self.cells.len() as u64) as usize
     }
 
     /// The value under the key, for as long as the guard is borrowed, as the map has it at one moment of the call.
     ///
     /// It takes no memory and no lock, and waits for nobody.
-    pub fn get<'g, G: Guard<Bucket<K, V>, At = Collector<Bucket<K, V>>>>(
+    pub fn get<'g, G: Guard<Bucket<K, V>, At = C>>(
         &self,
         guard: &'g G,
         key: &K,
@@ -97,12 +108,13 @@ impl<K: Hash + Drop, V: Drop, S: BuildHasher + Drop> HashMap<K, V, S> {
     where
         K: 'g,
         V: 'g,
+        C: 'g,
         requires of { IsForMap self.now (G.its_collector guard.now) pass.old }
         ensures finds { (m : Moment) × StandsSince pass.old pass.new m
             × Has self.now (the_row K.row V.row).coded.code m.before key.now (option_copied result) }
         ensures pass { IsPassOf (G.its_collector guard.now) pass.new }
     {
-        let found = self.cells().read(guard, self.place(key), pass);
+        let found = self.cells.read(guard, self.place(key), pass);
         value(find(entries(bucket_of(found)), key))
     }
 
@@ -116,7 +128,7 @@ impl<K: Hash + Drop, V: Drop, S: BuildHasher + Drop> HashMap<K, V, S> {
     ///
     /// `NoMemory` where the allocator refused, and `Contended` where all tries were lost. The map is as it was then, but for what others
     /// did, and the new entry ends.
-    pub fn insert<G: Guard<Bucket<K, V>, Reclaimer = Boxed, At = Collector<Bucket<K, V>>>, W: Wait>(
+    pub fn insert<G: Guard<Bucket<K, V>, At = C>, W: Wait>(
         &self,
         rt: &W,
         guard: &G,
@@ -126,6 +138,8 @@ impl<K: Hash + Drop, V: Drop, S: BuildHasher + Drop> HashMap<K, V, S> {
         pass: &mut Pass,
     ) -> Result<Option<Arc<Entry<K, V>>>, NotChanged>
         requires of { IsForMap self.now (G.its_collector guard.now) pass.old }
+        requires rule { MayReplace K.eq key (Some (record { key = key; value = value })) G.Reclaimer.keeps G.Reclaimer.owners
+            (its_store (map_words self.now)) (place_of self.now key) }
         ensures puts { IfOk result (ChangesAt self.now (the_row K.row V.row).coded.code (G.its_slot guard.now) pass.old pass.new
             key (Some value)) }
         ensures refused { IfErr result (IsRefused tries pass.old pass.new) }
@@ -136,14 +150,15 @@ impl<K: Hash + Drop, V: Drop, S: BuildHasher + Drop> HashMap<K, V, S> {
         };
         let at = self.place(&entry.key);
         let alloc = self.alloc;
+        let entry = &entry;
         let put = move |bucket: Option<&Bucket<K, V>>| -> Result<
             (Option<Bucket<K, V>>, Option<Arc<Entry<K, V>>>),
             AllocError,
         >
-            ensures { let new = arc_value entry in
+            ensures { let new = arc_value entry.entry.now in
                 IfOk result (λ made. Replaces K.eq new.key (Some new) (option_copied bucket.entry) made) }
-        { bucket::put(alloc, bucket, &entry) };
-        changed(self.cells().alter(rt, guard, at, put, tries, pass))
+        { bucket::put(alloc, bucket, entry) };
+        changed(self.cells.alter(rt, guard, at, put, tries, pass))
     }
 
     /// Takes out what is under the key, and gives its entry, if there is one. At one moment of the call the map has that under the key
@@ -154,7 +169,7 @@ impl<K: Hash + Drop, V: Drop, S: BuildHasher + Drop> HashMap<K, V, S> {
     /// # Errors
     ///
     /// As `insert`.
-    pub fn remove<G: Guard<Bucket<K, V>, Reclaimer = Boxed, At = Collector<Bucket<K, V>>>, W: Wait>(
+    pub fn remove<G: Guard<Bucket<K, V>, At = C>, W: Wait>(
         &self,
         rt: &W,
         guard: &G,
@@ -163,6 +178,8 @@ impl<K: Hash + Drop, V: Drop, S: BuildHasher + Drop> HashMap<K, V, S> {
         pass: &mut Pass,
     ) -> Result<Option<Arc<Entry<K, V>>>, NotChanged>
         requires of { IsForMap self.now (G.its_collector guard.now) pass.old }
+        requires rule { MayReplace K.eq key.now None G.Reclaimer.keeps G.Reclaimer.owners (its_store (map_words self.now))
+            (place_of self.now key.now) }
         ensures takes { IfOk result (ChangesAt self.now (the_row K.row V.row).coded.code (G.its_slot guard.now) pass.old pass.new
             key.now None) }
         ensures refused { IfErr result (IsRefused tries pass.old pass.new) }
@@ -174,9 +191,9 @@ impl<K: Hash + Drop, V: Drop, S: BuildHasher + Drop> HashMap<K, V, S> {
             (Option<Bucket<K, V>>, Option<Arc<Entry<K, V>>>),
             AllocError,
         >
-            ensures { IfOk result (λ made. Replaces K.eq key.now None (option_copied bucket.entry) made) }
+            ensures { IfOk result (λ made. Replaces K.eq key.entry.now None (option_copied bucket.entry) made) }
         { bucket::take(alloc, bucket, key) };
-        changed(self.cells().alter(rt, guard, at, take, tries, pass))
+        changed(self.cells.alter(rt, guard, at, take, tries, pass))
     }
 }
 
@@ -195,7 +212,9 @@ fn changed<A>(altered: Result<A, NotAltered<AllocError>>) -> Result<A, NotChange
 // The bucket that was found.
 fn bucket_of<'g, K: Drop, V: Drop>(
     found: Option<Shared<'g, Bucket<K, V>>>,
-) -> Option<&'g Bucket<K, V>> {
+) -> Option<&'g Bucket<K, V>>
+    ensures { option_copied result ≡ option_map shared_value found.entry }
+{
     match found {
         Some(shared) => Some(shared.get()),
         None => None,
@@ -203,7 +222,9 @@ fn bucket_of<'g, K: Drop, V: Drop>(
 }
 
 // The value of an entry.
-fn value<K: Drop, V: Drop>(entry: Option<&Arc<Entry<K, V>>>) -> Option<&V> {
+fn value<K: Drop, V: Drop>(entry: Option<&Arc<Entry<K, V>>>) -> Option<&V>
+    ensures { option_copied result ≡ value_of (option_map arc_value (option_copied entry.entry)) }
+{
     match entry {
         Some(entry) => Some(&entry.value),
         None => None,

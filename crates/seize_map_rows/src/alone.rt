@@ -1,10 +1,10 @@
 //! A map in one thread's hands.
-ghost use Rattle.std.specs.Prelude.{◌≡◌};
-ghost use Rattle.seize.specs.Collectors.{IsPassOf, its_words};
+ghost use Rattle.std.specs.Prelude.{◌<◌, IfOk};
+ghost use Rattle.seize.specs.Collectors.{IsPassOf, its_links, its_words};
 ghost use Rattle.seize.specs.Guards.{owned_collector};
-ghost use Rattle.seize_map.specs.Maps.{IsForMap, map_collector};
+ghost use Rattle.seize_map.specs.Maps.{IsForMap};
 
-use seize::{IdSource, OwnedGuard, Pass, Refusal};
+use seize::{Collector, IdSource, OwnedGuard, Pass, Refusal};
 use seize_map::{Bucket, Entry, HashMap, NotChanged};
 use std::alloc::Global;
 use std::hash::{BuildHasherDefault, DefaultHasher};
@@ -13,7 +13,7 @@ use std::test::Fail;
 
 type Hasher = BuildHasherDefault<DefaultHasher>;
 
-type Map = HashMap<u64, u64, Hasher>;
+type Map<'c> = HashMap<'c, u64, u64, Hasher>;
 
 type Guard<'c> = OwnedGuard<'c, Bucket<u64, u64>>;
 
@@ -23,9 +23,14 @@ fn value(entry: Option<Arc<Entry<u64, u64>>>) -> Option<u64> {
 }
 
 // What three insertions, two of one key, and three removals give, and what is found between them.
-type Told = ([Option<u64>; 3], [Option<u64>; 3], [Option<u64>; 3], [Option<u64>; 3]);
+type Told = (
+    [Option<u64>; 3],
+    [Option<u64>; 3],
+    [Option<u64>; 3],
+    [Option<u64>; 3],
+);
 
-fn found(map: &Map, guard: &Guard<'_>, pass: &mut Pass) -> [Option<u64>; 3]
+fn found(map: &Map<'_>, guard: &Guard<'_>, pass: &mut Pass) -> [Option<u64>; 3]
     requires of { IsForMap map.now (owned_collector guard.now) pass.old }
     ensures pass { IsPassOf (owned_collector guard.now) pass.new }
 {
@@ -37,7 +42,7 @@ fn found(map: &Map, guard: &Guard<'_>, pass: &mut Pass) -> [Option<u64>; 3]
 
 fn tell<W: Wait>(
     rt: &W,
-    map: &Map,
+    map: &Map<'_>,
     guard: &Guard<'_>,
     pass: &mut Pass,
 ) -> Result<Told, NotChanged>
@@ -55,16 +60,19 @@ fn tell<W: Wait>(
     Ok(([first, second, third], full, [one, again, three], left))
 }
 
-fn told<W: Wait>(rt: &W, alloc: Global, buckets: usize) -> Result<Result<Told, NotChanged>, Refusal> {
-    let map: Map = HashMap::new(
-        alloc,
-        &mut IdSource::new(),
-        1,
-        buckets.saturating_add(1),
-        BuildHasherDefault::new(),
-    )?;
-    let mut pass = map.collector().pass();
-    let guard = map.collector().enter_owned(rt, &mut pass)?;
+// A collector with a link, and so many more.
+fn collector(alloc: Global, more: usize) -> Result<Collector<Bucket<u64, u64>>, Refusal>
+    ensures { IfOk result (λ made. 0 < its_links (its_words made)) }
+{
+    Collector::new(alloc, &mut IdSource::new(), 1, more.saturating_add(1))
+}
+
+// What `tell` gives on a new map with a bucket, and so many more.
+fn told<W: Wait>(rt: &W, alloc: Global, more: usize) -> Result<Result<Told, NotChanged>, Refusal> {
+    let collector = collector(alloc, more)?;
+    let map = HashMap::new(&collector, alloc, BuildHasherDefault::new());
+    let mut pass = collector.pass();
+    let guard = collector.enter_owned(rt, &mut pass)?;
     let told = tell(rt, &map, &guard, &mut pass);
     guard.leave(rt, &mut pass);
     Ok(told)
@@ -89,29 +97,30 @@ fn an_insertion_gives_what_it_replaced(rt: HostRuntime) -> Result<(), Fail> {
 // With no try left nothing goes in.
 fn not_tried<W: Wait>(
     rt: &W,
-    map: &Map,
+    map: &Map<'_>,
     guard: &Guard<'_>,
     pass: &mut Pass,
 ) -> (bool, bool, [Option<u64>; 3])
     requires of { IsForMap map.now (owned_collector guard.now) pass.old }
     ensures pass { IsPassOf (owned_collector guard.now) pass.new }
 {
-    let put = matches!(map.insert(rt, guard, 1, 10, 0, pass), Err(NotChanged::Contended));
-    let taken = matches!(map.remove(rt, guard, &1, 0, pass), Err(NotChanged::Contended));
+    let put = matches!(
+        map.insert(rt, guard, 1, 10, 0, pass),
+        Err(NotChanged::Contended)
+    );
+    let taken = matches!(
+        map.remove(rt, guard, &1, 0, pass),
+        Err(NotChanged::Contended)
+    );
     (put, taken, found(map, guard, pass))
 }
 
 #[test]
 fn no_try_changes_nothing(rt: HostRuntime) -> Result<(), Fail> {
-    let map: Map = HashMap::new(
-        rt.alloc(),
-        &mut IdSource::new(),
-        1,
-        1,
-        BuildHasherDefault::new(),
-    )?;
-    let mut pass = map.collector().pass();
-    let guard = map.collector().enter_owned(&rt, &mut pass)?;
+    let collector = collector(rt.alloc(), 0)?;
+    let map = HashMap::new(&collector, rt.alloc(), BuildHasherDefault::new());
+    let mut pass = collector.pass();
+    let guard = collector.enter_owned(&rt, &mut pass)?;
     let told = not_tried(&rt, &map, &guard, &mut pass);
     guard.leave(&rt, &mut pass);
     assert!(rt; told == (true, true, [None, None, None]));

@@ -1,23 +1,31 @@
 //! Each value that went into a map ends once.
-ghost use Rattle.std.specs.Prelude.{◌≡◌};
-ghost use Rattle.seize.specs.Collectors.{IsPassOf, its_words};
+ghost use Rattle.std.specs.Prelude.{◌<◌, IfOk};
+ghost use Rattle.seize.specs.Collectors.{IsPassOf, its_links, its_words};
 ghost use Rattle.seize.specs.Guards.{owned_collector};
-ghost use Rattle.seize_map.specs.Maps.{IsForMap, map_collector};
+ghost use Rattle.seize_map.specs.Maps.{IsForMap};
 
-use seize::{IdSource, OwnedGuard, Pass, Refusal};
+use seize::{Collector, IdSource, OwnedGuard, Pass, Refusal};
 use seize_map::{Bucket, HashMap, NotChanged};
 use seize_test_kit::values::{Counted, ended};
+use std::alloc::Global;
 use std::hash::{BuildHasherDefault, DefaultHasher};
 use std::sync::Wait;
 use std::sync::atomic::AtomicU64;
 use std::test::Fail;
 
-type Map<'a> = HashMap<u64, Counted<'a>, BuildHasherDefault<DefaultHasher>>;
+type Map<'c, 'a> = HashMap<'c, u64, Counted<'a>, BuildHasherDefault<DefaultHasher>>;
+
+// A collector with four links.
+fn collector<'a>(alloc: Global) -> Result<Collector<Bucket<u64, Counted<'a>>>, Refusal>
+    ensures { IfOk result (λ made. 0 < its_links (its_words made)) }
+{
+    Collector::new(alloc, &mut IdSource::new(), 1, 4)
+}
 
 // Puts in three values, one in the place of another, and takes one out. It says how many ended while the guard was there.
 fn change<'a, W: Wait>(
     rt: &W,
-    map: &Map<'a>,
+    map: &Map<'_, 'a>,
     guard: &OwnedGuard<'_, Bucket<u64, Counted<'a>>>,
     ends: &'a AtomicU64,
     pass: &mut Pass,
@@ -34,7 +42,7 @@ fn change<'a, W: Wait>(
 
 fn change_and_leave<'a, W: Wait>(
     rt: &W,
-    map: &Map<'a>,
+    map: &Map<'_, 'a>,
     ends: &'a AtomicU64,
 ) -> Result<Result<u64, NotChanged>, Refusal> {
     let mut pass = map.collector().pass();
@@ -45,21 +53,16 @@ fn change_and_leave<'a, W: Wait>(
 }
 
 // While the guard is there no value ends. The slot is the last in use, so all that was taken out ends as the guard leaves, and what the
-// map holds with the map.
+// map holds with the collector.
 #[test]
 fn each_value_ends_once(rt: HostRuntime) -> Result<(), Fail> {
     let ends = AtomicU64::new(0);
-    let map: Map<'_> = HashMap::new(
-        rt.alloc(),
-        &mut IdSource::new(),
-        1,
-        4,
-        BuildHasherDefault::new(),
-    )?;
+    let collector = collector(rt.alloc())?;
+    let map = HashMap::new(&collector, rt.alloc(), BuildHasherDefault::new());
     let under = change_and_leave(&rt, &map, &ends)?;
     assert!(rt; under == Ok(0));
     assert_eq!(rt; ended(&ends), 2);
-    drop(map);
+    drop(collector);
     assert_eq!(rt; ended(&ends), 3);
     Ok(())
 }

@@ -1,19 +1,20 @@
 //! Threads that put in keys of their own, and one key of all: no insertion is lost.
-ghost use Rattle.std.specs.Prelude.{◌≡◌};
-ghost use Rattle.seize.specs.Collectors.{IsPassOf, its_words};
+ghost use Rattle.std.specs.Prelude.{◌<◌, IfOk};
+ghost use Rattle.seize.specs.Collectors.{IsPassOf, its_links, its_words};
 ghost use Rattle.seize.specs.Guards.{guard_collector, owned_collector};
 ghost use Rattle.seize.specs.Registrations.{registered_in};
-ghost use Rattle.seize_map.specs.Maps.{IsForMap, map_collector};
+ghost use Rattle.seize_map.specs.Maps.{IsForMap};
 
-use seize::{IdSource, LocalGuard, OwnedGuard, Pass, Refusal, Registration};
+use seize::{Collector, IdSource, LocalGuard, OwnedGuard, Pass, Refusal, Registration};
 use seize_map::{Bucket, HashMap};
+use std::alloc::Global;
 use std::hash::{BuildHasherDefault, DefaultHasher};
 use std::sync::Wait;
 use std::test::Fail;
 use std::thread;
 use std::thread::Threads;
 
-type Map = HashMap<u64, u64, BuildHasherDefault<DefaultHasher>>;
+type Map<'c> = HashMap<'c, u64, u64, BuildHasherDefault<DefaultHasher>>;
 
 // How many keys a thread puts in.
 const MANY: u64 = 200;
@@ -21,10 +22,17 @@ const MANY: u64 = 200;
 // More than the exchanges of the three others.
 const TRIES: u32 = 2_000;
 
+// A collector with eight links.
+fn collector(alloc: Global) -> Result<Collector<Bucket<u64, u64>>, Refusal>
+    ensures { IfOk result (λ made. 0 < its_links (its_words made)) }
+{
+    Collector::new(alloc, &mut IdSource::new(), 4, 8)
+}
+
 // Puts in the keys from `first` on, each with itself as its value. It says how many went in where there was none.
 fn put<W: Wait>(
     rt: &W,
-    map: &Map,
+    map: &Map<'_>,
     guard: &LocalGuard<'_, '_, Bucket<u64, u64>>,
     first: u64,
     pass: &mut Pass,
@@ -45,7 +53,7 @@ fn put<W: Wait>(
 fn put_under<W: Wait>(
     rt: &W,
     registration: &Registration<'_, Bucket<u64, u64>>,
-    map: &Map,
+    map: &Map<'_>,
     first: u64,
     pass: &mut Pass,
 ) -> Result<u64, Refusal>
@@ -59,16 +67,17 @@ fn put_under<W: Wait>(
 }
 
 // One thread's insertions, by a registration of its own.
-fn work<W: Wait>(rt: &W, map: &Map, first: u64) -> Result<u64, Refusal> {
-    let mut pass = map.collector().pass();
-    let registration = map.collector().register(rt, &mut pass)?;
+fn work<W: Wait>(rt: &W, map: &Map<'_>, first: u64) -> Result<u64, Refusal> {
+    let collector = map.collector();
+    let mut pass = collector.pass();
+    let registration = collector.register(rt, &mut pass)?;
     let new = put_under(rt, &registration, map, first, &mut pass);
     registration.end(rt, &mut pass);
     new
 }
 
 // Two threads, of which the second begins where the first one's keys are half over.
-fn two<R: Threads + Wait + Sync>(rt: &R, map: &Map, first: u64) -> Result<u64, Refusal> {
+fn two<R: Threads + Wait + Sync>(rt: &R, map: &Map<'_>, first: u64) -> Result<u64, Refusal> {
     let second = first.wrapping_add(MANY / 2);
     let (one, other) = thread::join(
         rt,
@@ -78,18 +87,13 @@ fn two<R: Threads + Wait + Sync>(rt: &R, map: &Map, first: u64) -> Result<u64, R
     Ok(one?.saturating_add(other?))
 }
 
-fn four<R: Threads + Wait + Sync>(rt: &R, map: &Map) -> Result<u64, Refusal> {
+fn four<R: Threads + Wait + Sync>(rt: &R, map: &Map<'_>) -> Result<u64, Refusal> {
     let (one, other) = thread::join(rt, move || two(rt, map, 0), move || two(rt, map, MANY));
     Ok(one?.saturating_add(other?))
 }
 
 // How many of the first keys have themselves as their values.
-fn right(
-    map: &Map,
-    guard: &OwnedGuard<'_, Bucket<u64, u64>>,
-    keys: u64,
-    pass: &mut Pass,
-) -> u64
+fn right(map: &Map<'_>, guard: &OwnedGuard<'_, Bucket<u64, u64>>, keys: u64, pass: &mut Pass) -> u64
     requires of { IsForMap map.now (owned_collector guard.now) pass.old }
     ensures pass { IsPassOf (owned_collector guard.now) pass.new }
 {
@@ -105,16 +109,11 @@ fn right(
 // Four threads put in 200 keys each, of which neighbours have 100 in common, into eight buckets. 500 keys are new once each.
 #[test]
 fn no_insertion_is_lost(rt: HostRuntime) -> Result<(), Fail> {
-    let map: Map = HashMap::new(
-        rt.alloc(),
-        &mut IdSource::new(),
-        4,
-        8,
-        BuildHasherDefault::new(),
-    )?;
+    let collector = collector(rt.alloc())?;
+    let map = HashMap::new(&collector, rt.alloc(), BuildHasherDefault::new());
     let new = four(&rt, &map);
-    let mut pass = map.collector().pass();
-    let guard = map.collector().enter_owned(&rt, &mut pass)?;
+    let mut pass = collector.pass();
+    let guard = collector.enter_owned(&rt, &mut pass)?;
     let right = right(&map, &guard, 600, &mut pass);
     guard.leave(&rt, &mut pass);
     assert_eq!(rt; new?, 500);
