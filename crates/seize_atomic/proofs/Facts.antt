@@ -1,6 +1,5 @@
 -- What other crates may build on: what an alteration means at one moment of the list of all events.
-use Rattle.std.proofs.Common.{◌≡◌, ◌+◌, ℕ, suc, List, [], ◌∷◌, ◌++◌, length, Option, Some, None, IfOk, option_map, refl, sym, subst, ◌∙◌, arith}
-use Rattle.std.proofs.lemmas.List.{length-append}
+use Rattle.std.proofs.Common.{◌≡◌, ℕ, List, Option, Some, None, IfOk, option_map, refl, sym, subst}
 use denote.Bor.{Bor}
 use base.Stored.{Gv}
 use Rattle.core.specs.declared.result.Result.{Result}
@@ -20,17 +19,16 @@ use Rattle.seize_book.specs.declared.book.pass.Pass.{Pass}
 use Rattle.seize_parts.specs.declared.block.shared.Shared.{Shared}
 use Rattle.seize_words.specs.declared.words.Words.{Words}
 use Rattle.seize_atomic.specs.Cells.{RetiresOut}
-use Rattle.seize_atomic.specs.Alters.{AltersCell, ChangeNothing, IsMadeBy, MayAnswer, TriesCell}
+use Rattle.seize_atomic.specs.Alters.{AltersCell, IsMadeBy, MayAnswer, TriesCell}
 use Rattle.seize_atomic.specs.declared.cells.NotAltered.{NotAltered}
-use Rattle.seize_atomic.specs.declared.cells.NotAltered.TheVariants.{Contended}
 use Rattle.seize_atomic.proofs.Trying.{shows_says}
 
 -- **What a read found, the cell holds at a moment of the list, after what the pass had seen before.**
 pub was_read : {T : Type 0} (words : Words T) (code : T → Gv) (s i : ℕ) (held : Option ℕ) (found : Option (Shared T)) {p q : Pass} → MakesOne p q (ReadLink s i) (Link held) → Shows words code held found
-    → (m : Moment) × StandsSince p q m × Says code (link_at m.before i) (option_map shared_value found)
+    → (m : Moment) × StandsSince p q m × (link_at m.before i ≡ held) × Says code (link_at m.before i) (option_map shared_value found)
 was_read words code s i held found reads shows =
     let there = read_there s i held reads in
-    (there.0, there.1, subst (λ (o : Option ℕ). Says code o (option_map shared_value found)) (sym there.2) (shows_says words code held found shows))
+    (there.0, there.1, there.2, subst (λ (o : Option ℕ). Says code o (option_map shared_value found)) (sym there.2) (shows_says words code held found shows))
 
 module _ {T A E : Type 0} (post : Option (Bor T) → Result (Option T × A) E → Type 0) (code : T → Gv) (s i kind : ℕ) where
   -- a moment between two passes at which the slot exchanges the cell, which has one content before, and after it what the function answers
@@ -96,25 +94,22 @@ module _ {T A E : Type 0} (post : Option (Bor T) → Result (Option T × A) E �
   pub alters_make : (tries : ℕ) (pass pass' : Pass) (result : Result A (NotAltered E)) → AltersCell post code s i kind tries pass pass' result → (es : List (Event × Answer)) × Makes pass pass' es
   alters_make tries pass pass' result (first, mid, reads, rest) = with_tries tries first pass mid pass' result rest reads
 
-  -- An alteration that was not made changed nothing.
+-- **What was altered by a function was altered by one that says less of its answers.**
+module _ {T A E : Type 0} (post post' : Option (Bor T) → Result (Option T × A) E → Type 0) (weaker : (x : Option (Bor T)) (answer : Result (Option T × A) E) → post x answer → post' x answer)
+    (code : T → Gv) (s i kind : ℕ) where
+  answers : (x : Option T) (answer : Result (Option T × A) E) → MayAnswer post x answer → MayAnswer post' x answer
+  answers x answer (a, is, said) = (a, is, weaker a answer said)
 
-  nothing_then : (es fs : List (Event × Answer)) → ChangeNothing es → ChangeNothing fs → ChangeNothing (es ++ fs)
-  nothing_then [] fs first then = then
-  nothing_then (e ∷ es) fs first then = (first.0, nothing_then es fs first.1 then)
+  makes : (found put : Option ℕ) (a : A) → IsMadeBy post code found put a → IsMadeBy post' code found put a
+  makes found put a (x, y, says, given, said) = (x, y, says, answers x (Ok (y, a)) given, said)
 
-  lost_tries : (left : ℕ) (found : Option ℕ) (p pass pass' : Pass) (result : Result A (NotAltered E)) (e : NotAltered E) {es : List (Event × Answer)} → result ≡ Err e
-      → TriesCell post code s i kind left found pass pass' result → Makes p pass es → ChangeNothing es
-      → (fs : List (Event × Answer)) × Makes p pass' fs × ChangeNothing fs × (e ≡ Contended → length fs ≡ length es + left)
-  lost_tries _ _ p _ _ _ e {es} is (TriesCell.over _ _) makes none = (es, makes, none, λ _. omega arith)
-  lost_tries _ _ p _ _ _ e {es} is (TriesCell.refused _ _ _ why _) makes none = (es, makes, none, λ lost. absurd (cc))
-  lost_tries _ _ p _ _ _ e {es} is (TriesCell.no_memory _ _ _ _) makes none = (es, makes, none, λ lost. absurd (cc))
-  lost_tries _ _ p _ _ _ e {es} is (TriesCell.lost left found put held a pass mid pass' result by differs made rest) makes none =
-      let then = lost_tries left held p mid pass' result e is rest (makes_then makes made) (nothing_then es _ none (differs, tt)) in
-      (then.0, then.1, then.2, λ lost. then.3 lost ∙ omega (arith, length-append es ((ExchangeLink s i (Compare found put), Link held) ∷ [])))
-  lost_tries _ _ p _ _ _ e is (TriesCell.won left found put a pass mid pass' by made retired) makes none = absurd (cc)
+  tries_less : (left : ℕ) (found : Option ℕ) (pass pass' : Pass) (result : Result A (NotAltered E)) → TriesCell post code s i kind left found pass pass' result → TriesCell post' code s i kind left found pass pass' result
+  tries_less _ _ _ _ _ (TriesCell.over found pass) = TriesCell.over found pass
+  tries_less _ _ _ _ _ (TriesCell.refused left found pass e (x, says, given)) = TriesCell.refused left found pass e (x, says, answers x (Err e) given)
+  tries_less _ _ _ _ _ (TriesCell.no_memory left found pass (x, y, a, says, given)) = TriesCell.no_memory left found pass (x, y, a, says, answers x (Ok (Some y, a)) given)
+  tries_less _ _ _ _ _ (TriesCell.lost left found put held a pass mid pass' result by differs made rest) =
+      TriesCell.lost left found put held a pass mid pass' result (makes found put a by) differs made (tries_less left held mid pass' result rest)
+  tries_less _ _ _ _ _ (TriesCell.won left found put a pass mid pass' by made retired) = TriesCell.won left found put a pass mid pass' (makes found put a by) made retired
 
-  -- **Where it was not made, it made a read, and exchanges that were lost: as many as may be tried, where it was `Contended`.**
-  pub not_altered : (tries : ℕ) (pass pass' : Pass) (e : NotAltered E) → AltersCell post code s i kind tries pass pass' (Err e)
-      → (es : List (Event × Answer)) × Makes pass pass' es × ChangeNothing es × (e ≡ Contended → length es ≡ suc tries)
-  not_altered tries pass pass' e (first, mid, reads, rest) =
-      let then = lost_tries tries first pass mid pass' (Err e) e refl rest reads (tt, tt) in (then.0, then.1, then.2, λ lost. then.3 lost ∙ omega arith)
+  pub alters_less : (tries : ℕ) (pass pass' : Pass) (result : Result A (NotAltered E)) → AltersCell post code s i kind tries pass pass' result → AltersCell post' code s i kind tries pass pass' result
+  alters_less tries pass pass' result (first, mid, reads, rest) = (first, mid, reads, tries_less tries first mid pass' result rest)

@@ -11,34 +11,22 @@
 --                               it exchanges that for what the function makes of it. Where the cell held something else, it goes on with
 --                               that. Where it was won, what came out is retired
 --     AltersCell post code s i kind tries pass pass' result     slot s read cell i, and then tried
---     ChangesNothing x          an event, with its answer, that reads a link, or an exchange that was lost;  ChangeNothing xs     all of
---                               these do
-use Rattle.std.specs.Prelude.{◌≡◌, ◌≢◌, ℕ, suc, zero, Option, Some, IfSome, List, [], ◌∷◌, option_copied}
+use Rattle.std.specs.Prelude.{◌≡◌, ◌≢◌, ℕ, suc, zero, Option, Some, IfSome, List, option_copied}
 use denote.Bor.{Bor}
 use base.Stored.{Gv}
 use Rattle.core.specs.declared.convert.lends.Infallible.{Infallible}
 use Rattle.core.specs.declared.result.Result.{Result}
 use Rattle.core.specs.declared.result.Result.TheVariants.{Err, Ok}
-use Rattle.seize.specs.Answer.{Answer}
 use Rattle.seize.specs.Answer.TheVariants.{Link}
 use Rattle.seize.specs.Blocks.{HoldsOnly}
 use Rattle.seize.specs.Exchange.TheVariants.{Compare}
-use Rattle.seize.specs.Machine.Event.{Event, ExchangeLink, ReadLink}
+use Rattle.seize.specs.Machine.Event.{ExchangeLink, ReadLink}
 use Rattle.seize.specs.Makes.{MakesOne}
 use Rattle.seize.specs.Rules.{Says}
 use Rattle.seize_book.specs.declared.book.pass.Pass.{Pass}
 use Rattle.seize_atomic.specs.Cells.{RetiresOut}
 use Rattle.seize_atomic.specs.declared.cells.NotAltered.{NotAltered}
 use Rattle.seize_atomic.specs.declared.cells.NotAltered.TheVariants.{Contended, NoMemory, Refused}
-
-abbrev pub ChangesNothing : Event × Answer → Type 0
-ChangesNothing (ReadLink s l, answer) = Unit {0}
-ChangesNothing (ExchangeLink s l (Compare current new), Link held) = current ≢ held
-ChangesNothing _ = ⊥
-
-abbrev pub ChangeNothing : List (Event × Answer) → Type 0
-ChangeNothing [] = Unit {0}
-ChangeNothing (x ∷ xs) = ChangesNothing x × ChangeNothing xs
 
 abbrev pub MayAnswer : {T Y : Type 0} → (Option (Bor T) → Y → Type 0) → Option T → Y → Type 0
 MayAnswer {T} post x y = (a : Option (Bor T)) × (option_copied a ≡ x) × post a y

@@ -1,12 +1,11 @@
 -- What the map has when a bucket is read, and after a bucket took the place of another: under the key what was put there, and else what it had.
-use Rattle.std.proofs.Common.{◌≡◌, ◌==◌, ◌≢◌, ◌%◌, ◌⊎◌, inl, inr, ℕ, List, Bool, true, false, cond, IfOk, IsErr, option_copied, Option, None, Some, option_map, refl, ap, sym, ◌∙◌, subst}
+use Rattle.std.proofs.Common.{◌≡◌, ◌==◌, ◌≢◌, ◌%◌, ◌⊎◌, inl, inr, ℕ, List, [], ◌∷◌, Bool, true, false, cond, IfOk, IfSome, option_copied, Option, None, Some, option_map, refl, ap, sym, ◌∙◌, subst}
 use Rattle.std.proofs.lemmas.Bool.{eq-eqb, eqb-true}
 use denote.Bor.{Bor}
 use base.Stored.{Coded, Gv}
 use Rattle.std_alloc.specs.Arc.{arc_value}
 use Rattle.std_alloc.specs.declared.arc.Arc.{Arc}
 use Rattle.core.specs.Cmp.{IsEquivalence}
-use Rattle.core.specs.Result.{is_err}
 use Rattle.core.specs.declared.result.Result.{Result}
 use Rattle.core.specs.declared.result.Result.TheVariants.{Err, Ok}
 use Rattle.core.specs.List.{fold}
@@ -29,16 +28,14 @@ use Rattle.seize_parts.specs.declared.block.shared.Shared.{Shared}
 use Rattle.seize_parts.specs.declared.parts.Home as home
 use Rattle.seize_words.specs.declared.words.Words.{Words}
 use Rattle.seize_atomic.specs.Alters.{AltersCell}
+use Rattle.seize_atomic.specs.Cells.{cells_kind}
 use Rattle.seize_atomic.specs.declared.cells.NotAltered.{NotAltered}
-use Rattle.seize_atomic.specs.declared.cells.NotAltered.TheVariants.{Contended as all_lost}
-use Rattle.seize_atomic.proofs.Facts.{altered, not_altered, was_read}
-use Rattle.seize_map.specs.Buckets.{Replaces, entries_in, entry_under, value_in}
-use Rattle.seize_map.specs.Maps.{Changes, ChangesAt, Has, IsRefused, map_words, place_of}
+use Rattle.seize_atomic.proofs.Facts.{altered, alters_less, was_read}
+use Rattle.seize_map.specs.Buckets.{MakesBucket, Replaces, entries_in, entry_under, value_in, value_of}
+use Rattle.seize_map.specs.Maps.{Changes, ChangesAt, ChangesMap, Has, ReadsMap, map_words, place_of}
 use Rattle.seize_map.specs.declared.bucket.Bucket.{Bucket}
 use Rattle.seize_map.specs.declared.bucket.Entry.{Entry}
 use Rattle.seize_map.specs.declared.map.HashMap.{HashMap}
-use Rattle.seize_map.specs.declared.map.NotChanged.{NotChanged}
-use Rattle.seize_map.specs.declared.map.NotChanged.TheVariants.{Contended as contended}
 use Rattle.seize_map.proofs.Lookups.{changed}
 
 cases_eq : (a b : ℕ) → (a ≡ b) ⊎ (a ≢ b)
@@ -49,21 +46,34 @@ cases_eq a b = go (a == b) refl
     go false differs = inr (λ same. absurd (let no : true ≡ false = sym (eq-eqb a b same) ∙ differs in cc))
 
 module _ {K V : Type 0} where
-  through_arc : {Z : Type 0} (was : Option (Arc (Entry K V) Z)) → option_map (λ (e : Entry K V). e.value) (option_map arc_value was) ≡ option_map (λ (a : Arc (Entry K V) Z). (arc_value a).value) was
-  through_arc (Some a) = refl
-  through_arc None = refl
+  -- what is found passes
+  passes : (is : K → Bool) (es : List (Entry K V)) (x : Entry K V) → entry_under is es ≡ Some x → is x.key ≡ true
+  passes is [] x found = absurd (cc)
+  passes is (y ∷ es) x found = go (is y.key) refl found (passes is es x)
+    where
+      go : (b : Bool) → is y.key ≡ b → cond b (Some y) (entry_under is es) ≡ Some x → (entry_under is es ≡ Some x → is x.key ≡ true) → is x.key ≡ true
+      go true passed same later = subst (λ (z : Entry K V). is z.key ≡ true) (let both : y ≡ x = cc in both) passed
+      go false passed same later = later same
 
   through_cond : (b : Bool) (new found : Option (Entry K V)) → option_map (λ e. e.value) (cond b new found) ≡ cond b (option_map (λ e. e.value) new) (option_map (λ e. e.value) found)
   through_cond true new found = refl
   through_cond false new found = refl
 
 -- **What a read found, the map has at the moment of the read.**
-pub read_has : {K V S C H : Type 0} {k : hash.Ghosts K} {e : eq.Ghosts K} {b : builder.Ghosts S H} {h : hasher.Ghosts H} {c : home.Ghosts C (Bucket K V)} (map : HashMap K V S C H k e b h c) (words : Words (Bucket K V))
+pub reads_map : {K V S C H : Type 0} {k : hash.Ghosts K} {e : eq.Ghosts K} {b : builder.Ghosts S H} {h : hasher.Ghosts H} {c : home.Ghosts C (Bucket K V)} (map : HashMap K V S C H k e b h c) (words : Words (Bucket K V))
     (code : Bucket K V → Gv) (s l : ℕ) (key : K) (y : Option V) (held : Option ℕ) (found : Option (Shared (Bucket K V))) {p q : Pass} → MakesOne p q (ReadLink s l) (Link held) → Shows words code held found
-    → l ≡ place_of map key → value_in e.eq (option_map shared_value found) key ≡ y → (m : Moment) × StandsSince p q m × Has map code m.before key y
-read_has map words code s l key y held found reads shows place is =
-    let there = was_read words code s l held found reads shows in
-    (there.0, there.1, (option_map shared_value found, subst (λ (n : ℕ). Says code (link_at there.0.before n) (option_map shared_value found)) place there.2, is))
+    → l ≡ place_of map key → value_in e.eq (option_map shared_value found) key ≡ y → ReadsMap map code s p q key y
+reads_map map words code s l key y held found {p} {q} reads shows at is =
+    let there = was_read words code s l held found reads shows in let m = there.0 in (
+      held,
+      subst (λ (n : ℕ). MakesOne p q (ReadLink s n) (Link held)) at reads,
+      (
+        m,
+        there.1,
+        subst (λ (n : ℕ). link_at m.before n ≡ held) at there.2,
+        (option_map shared_value found, subst (λ (n : ℕ). Says code (link_at m.before n) (option_map shared_value found)) at there.3, is),
+      ),
+    )
 
 module _ {K V S C H : Type 0} {k : hash.Ghosts K} {e : eq.Ghosts K} {b : builder.Ghosts S H} {h : hasher.Ghosts H} {c : home.Ghosts C (Bucket K V)} (map : HashMap K V S C H k e b h c) (laws : IsEquivalence e.eq)
     (alike : (x y : K) → e.eq x y ≡ true → k.hash_input x ≡ k.hash_input y) (coded : Coded (Bucket K V)) (key : K) (new : Option (Entry K V)) (its : (x : Entry K V) → new ≡ Some x → x.key ≡ key) where
@@ -79,8 +89,12 @@ module _ {K V S C H : Type 0} {k : hash.Ghosts K} {e : eq.Ghosts K} {b : builder
     in_made q = ap (option_map (λ (x : Entry K V). x.value)) (changed e.eq laws key new (entries_in before) (entries_in made.0) its replaces.0 q) ∙ through_cond (e.eq key q) new (entry_under (e.eq q) (entries_in before))
 
     -- what the old one had under the key came out
-    was_there : value_in e.eq before key ≡ option_map (λ (a : Arc (Entry K V) Z). (arc_value a).value) made.1
-    was_there = ap (option_map (λ (x : Entry K V). x.value)) (sym replaces.1) ∙ through_arc made.1
+    was_there : value_in e.eq before key ≡ value_of (option_map arc_value made.1)
+    was_there = ap value_of (sym replaces.1)
+
+    found_key : (o : Option (Arc (Entry K V) Z)) (x : List (Entry K V)) → option_map arc_value o ≡ entry_under (e.eq key) x → IfSome o (λ (a : Arc (Entry K V) Z). e.eq key (arc_value a).key ≡ true)
+    found_key None x is = tt
+    found_key (Some a) x is = passes (e.eq key) x (arc_value a) (sym is)
 
     -- a key that lies elsewhere is another one
     same_place : (q : K) → e.eq key q ≡ true → place key ≡ place q
@@ -110,7 +124,7 @@ module _ {K V S C H : Type 0} {k : hash.Ghosts K} {e : eq.Ghosts K} {b : builder
     -- **So an alteration of the bucket is a change of the map at its moment.**
     pub changed_at : (s : ℕ) (pass pass' : Pass) (m : Moment) → StandsSince pass pass' m → Says coded.code (link_at m.before (place key)) before → Says coded.code (link_at m.after (place key)) made.0
         → ExchangesOnly s (place key) m → ChangesAt map coded.code s pass pass' key put made.1
-    changed_at s pass pass' m since was is only = (m, since, only, (before, was, was_there), changes m.before m.after was is only.1)
+    changed_at s pass pass' m since was is only = (m, since, only, (before, was, was_there), found_key made.1 (entries_in before) replaces.1, changes m.before m.after was is only.1)
 
     pub altered_at : (l s : ℕ) (pass pass' : Pass) (m : Moment) → l ≡ place key → StandsSince pass pass' m → Says coded.code (link_at m.before l) before → Says coded.code (link_at m.after l) made.0
         → ExchangesOnly s l m → ChangesAt map coded.code s pass pass' key put made.1
@@ -123,22 +137,23 @@ module _ {K V S C H : Type 0} {k : hash.Ghosts K} {e : eq.Ghosts K} {b : builder
   at_ok P (Err e) holds b is = absurd (cc)
 
   module _ {Z E : Type 0} (post : Option (Bor (Bucket K V)) → Result (Option (Bucket K V) × Option (Arc (Entry K V) Z)) E → Type 0)
-      (gives : (x : Option (Bor (Bucket K V))) (y : Option (Bucket K V)) (a : Option (Arc (Entry K V) Z)) → post x (Ok (y, a)) → Replaces e.eq key new (option_copied x) (y, a))
+      (gives : (x : Option (Bor (Bucket K V))) (answer : Result (Option (Bucket K V) × Option (Arc (Entry K V) Z)) E) → post x answer → MakesBucket e.eq key new x answer)
       (l s kind tries : ℕ) (at : l ≡ place key) (pass pass' : Pass) (result : Result (Option (Arc (Entry K V) Z)) (NotAltered E)) (alters : AltersCell post coded.code s l kind tries pass pass' result) where
     -- an alteration that was made
     pub alters_map : (a : Option (Arc (Entry K V) Z)) → result ≡ Ok a → ChangesAt map coded.code s pass pass' key put a
     alters_map a is =
         let t = at_ok _ result (altered post coded.code s l kind tries pass pass' result alters) a is in
         let x = t.2.0 in let y = t.2.1 in let answers = t.2.2 in
-        let replaces : Replaces e.eq key new x (y, a) = subst (λ (b : Option (Bucket K V)). Replaces e.eq key new b (y, a)) answers.1 (gives answers.0 y a answers.2) in
+        let replaces : Replaces e.eq key new x (y, a) = subst (λ (b : Option (Bucket K V)). Replaces e.eq key new b (y, a)) answers.1 (gives answers.0 (Ok (y, a)) answers.2) in
         altered_at x (y, a) replaces l s pass pass' t.0 at t.1 t.2.3 t.2.4 t.3
 
-    -- and one that was not
-    pub refuses_map : (why : NotChanged) → IsErr result → (why ≡ contended → result ≡ Err all_lost) → IsRefused tries pass pass' why
-    refuses_map why is lost = go result refl
+    -- **So it is with each alteration.**
+    pub changes_map : kind ≡ cells_kind map.cells → ChangesMap map coded.code s key new tries pass pass' result
+    changes_map same = (inr made, go result refl)
       where
-        go : (r : Result (Option (Arc (Entry K V) Z)) (NotAltered E)) → result ≡ r → IsRefused tries pass pass' why
-        go (Ok a) same = absurd (let no : false ≡ true = sym (ap is_err same) ∙ is in cc)
-        go (Err e) same =
-            let made = not_altered post coded.code s l kind tries pass pass' e (subst (AltersCell post coded.code s l kind tries pass pass') same alters) in
-            inr (made.0, made.1, made.2, λ w. made.3 (let both : Err e ≡ Err all_lost = sym same ∙ lost w in cc))
+        made : AltersCell (MakesBucket e.eq key new) coded.code s (place key) (cells_kind map.cells) tries pass pass' result
+        made = subst (λ (t : ℕ × ℕ). AltersCell (MakesBucket e.eq key new) coded.code s t.0 t.1 tries pass pass' result) (λ j. (at j, same j)) (alters_less post (MakesBucket e.eq key new) gives coded.code s l kind tries pass pass' result alters)
+
+        go : (r : Result (Option (Arc (Entry K V) Z)) (NotAltered E)) → result ≡ r → IfOk r (ChangesAt map coded.code s pass pass' key put)
+        go (Ok a) is = alters_map a is
+        go (Err e) is = tt

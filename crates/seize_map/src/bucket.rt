@@ -71,7 +71,7 @@ pub(crate) fn entries<'b, K: Drop, V: Drop>(
 }
 
 // The entry of this key, counted once more.
-fn found<K: Eq + Drop, V: Drop>(
+fn counted<K: Eq + Drop, V: Drop>(
     entries: &[Arc<Entry<K, V>>],
     key: &K,
 ) -> Result<Option<Arc<Entry<K, V>>>, AllocError>
@@ -83,11 +83,8 @@ fn found<K: Eq + Drop, V: Drop>(
     }
 }
 
-/// The bucket with this entry in the place of that of its key, and that one, if there was one.
-///
-/// # Errors
-///
-/// `AllocError` where the allocator refused, or an entry is counted too often.
+// The bucket with this entry in the place of that of its key, and that one, if there was one. An error comes where the
+// allocator refused, or an entry is counted too often.
 pub(crate) fn put<K: Eq + Drop, V: Drop>(
     alloc: Global,
     bucket: Option<&Bucket<K, V>>,
@@ -97,17 +94,13 @@ pub(crate) fn put<K: Eq + Drop, V: Drop>(
         IfOk result (λ made. Replaces K.eq new.key (Some new) (option_copied bucket.entry) made) }
 {
     let before = entries(bucket);
-    let was = found(before, &entry.key)?;
+    let was = counted(before, &entry.key)?;
     let mut all = without(alloc, before, &entry.key)?;
     all.push(entry.clone()?)?;
     Ok((Some(Bucket { entries: all }), was))
 }
 
-/// The bucket without the entry of this key, and that one, if there was one. A bucket with no entry is none.
-///
-/// # Errors
-///
-/// As `put`.
+// The bucket without the entry of this key, and that one, if there was one. A bucket with no entry is none. Errors are as with `put`.
 pub(crate) fn take<K: Eq + Drop, V: Drop>(
     alloc: Global,
     bucket: Option<&Bucket<K, V>>,
@@ -116,7 +109,7 @@ pub(crate) fn take<K: Eq + Drop, V: Drop>(
     ensures { IfOk result (λ made. Replaces K.eq key.now None (option_copied bucket.entry) made) }
 {
     let before = entries(bucket);
-    let was = found(before, key)?;
+    let was = counted(before, key)?;
     let left = without(alloc, before, key)?;
     if left.is_empty() {
         return Ok((None, was));

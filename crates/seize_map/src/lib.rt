@@ -1,4 +1,5 @@
-//! A hash map that threads share.
+//! A hash map that threads share, on the cells of a collector. Each call is one read or one exchange of a bucket, so by contract it has one
+//! moment of the list of all events.
 #![tactic(auto)]
 
 mod bucket;

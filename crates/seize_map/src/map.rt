@@ -1,13 +1,11 @@
 //! The map: one cell for each bucket, and each call one read or one alteration of the cell in which its key lies. So a call has one moment
 //! of the list of all events, at which the whole map is what its contract says.
-ghost use Rattle.std.specs.Prelude.{◌≡◌, ◌<◌, Err, IfErr, IfOk, IsErr, Ok, option_copied, option_map};
+ghost use Rattle.std.specs.Prelude.{◌≡◌, ◌<◌, IfOk, option_copied, option_map};
 ghost use Rattle.std_alloc.specs.Arc.{arc_value};
 ghost use Rattle.seize.specs.Links.{shared_value};
 ghost use Rattle.seize_map.specs.Buckets.{value_of};
 ghost use Rattle.seize.specs.Collectors.{its_links};
 ghost use Rattle.seize_atomic.specs.Cells.{cells_home};
-ghost use Rattle.seize_atomic.specs.declared.cells.NotAltered.TheVariants.{Contended as all_lost};
-ghost use Rattle.seize_map.specs.declared.map.NotChanged.TheVariants.{Contended as contended};
 
 use crate::bucket::{self, Bucket, Entry, entries, find};
 use seize::{Collector, Guard, Home, Pass, Reclaim, Shared};
@@ -19,7 +17,8 @@ use std::sync::{Arc, Wait};
 
 /// A map that threads share: the links of a collector, as so many buckets. Its readers take no lock, and wait for nobody.
 ///
-/// Whoever reads or changes it has a guard of the collector. What a change takes out is retired, and reclaimed once no guard can read it.
+/// Whoever reads or changes it has a guard of the collector. A change puts a new bucket in the place of the old one, which is retired as of
+/// kind 0. An entry ends with the last bucket that has it, or with what `insert` or `remove` gave of it, if that is kept longer.
 #[derive(Drop)]
 pub struct HashMap<'c, K: Hash + Drop, V: Drop, S: BuildHasher + Drop, C: Home<Bucket<K, V>>> {
     pub(crate) cells: Cells<'c, Bucket<K, V>, C>,
@@ -28,14 +27,8 @@ pub struct HashMap<'c, K: Hash + Drop, V: Drop, S: BuildHasher + Drop, C: Home<B
     ghost some: { 0 < its_links (C.its_words (cells_home cells)) },
 }
 
-/// Why the map was not changed.
-#[derive(Clone, Copy, PartialEq, Eq, Debug, Drop)]
-pub enum NotChanged {
-    /// The allocator refused.
-    NoMemory,
-    /// All tries were lost: each time another change of the same bucket came first.
-    Contended,
-}
+/// Why the map was not changed: `NoMemory` or `Refused` where memory was refused, or `Contended`.
+pub type NotChanged = NotAltered<AllocError>;
 
 impl<'c, K: Hash + Drop, V: Drop, S: BuildHasher + Drop, R: Reclaim<Bucket<K, V>>> HashMap<
     'c,
@@ -45,9 +38,10 @@ impl<'c, K: Hash + Drop, V: Drop, S: BuildHasher + Drop, R: Reclaim<Bucket<K, V>
     Collector<Bucket<K, V>, R>,
 > {
     ghost use Rattle.seize.specs.Collectors.{its_words};
-    ghost use Rattle.seize_map.specs.Maps.{map_home};
+    ghost use Rattle.seize_map.specs.Maps.{map_hasher, map_home};
 
-    /// The map of this collector: its bucket i is link i. It is empty where the links are.
+    /// The map of this collector: its bucket i is link i. It is empty where the links are. Another map of the same collector finds the same
+    /// keys where its hasher puts them into the same buckets, and else loses them.
     ///
     /// It takes no memory. `alloc` is for what changes ask for.
     pub fn new(
@@ -56,7 +50,7 @@ impl<'c, K: Hash + Drop, V: Drop, S: BuildHasher + Drop, R: Reclaim<Bucket<K, V>
         hasher: S,
     ) -> HashMap<'c, K, V, S, Collector<Bucket<K, V>, R>>
         requires some { 0 < its_links (its_words collector.now) }
-        ensures { map_home result ≡ collector.now }
+        ensures { (map_home result ≡ collector.now) × (map_hasher result ≡ hasher) }
     {
         HashMap {
             cells: Cells::new(collector),
@@ -75,10 +69,8 @@ impl<'c, K: Hash + Drop, V: Drop, S: BuildHasher + Drop, C: Home<Bucket<K, V>>> 
 > {
     ghost use Rattle.std.specs.Prelude.{None, Some};
     ghost use Rattle.seize.specs.Collectors.{IsPassOf, its_store};
-    ghost use Rattle.seize.specs.Machine.History.{Moment};
-    ghost use Rattle.seize.specs.Moments.{StandsSince};
     ghost use Rattle.seize_map.specs.Buckets.{MayReplace, Replaces};
-    ghost use Rattle.seize_map.specs.Maps.{ChangesAt, Has, IsForMap, IsRefused, map_home, map_words, place_of};
+    ghost use Rattle.seize_map.specs.Maps.{ChangesMap, IsForMap, ReadsMap, map_home, map_words, place_of};
     ghost use Rattle.seize_map.specs.contracts.bucket.Bucket.{the_row};
 
     /// Its collector, by which threads register, and get guards and passes.
@@ -96,9 +88,9 @@ impl<'c, K: Hash + Drop, V: Drop, S: BuildHasher + Drop, C: Home<Bucket<K, V>>> 
         (self.hasher.hash_one(key) % self.cells.len() as u64) as usize
     }
 
-    /// The value under the key, for as long as the guard is borrowed, as the map has it at one moment of the call.
+    /// The value under the key, for as long as the guard is borrowed, as the map has it at the moment at which the bucket is read.
     ///
-    /// It takes no memory and no lock, and waits for nobody.
+    /// It takes no memory and no lock, and waits for nobody, but for what `Hash` and `Eq` of the keys do. Its time grows with the bucket.
     pub fn get<'g, G: Guard<Bucket<K, V>, At = C>>(
         &self,
         guard: &'g G,
@@ -110,24 +102,24 @@ impl<'c, K: Hash + Drop, V: Drop, S: BuildHasher + Drop, C: Home<Bucket<K, V>>> 
         V: 'g,
         C: 'g,
         requires of { IsForMap self.now (G.its_collector guard.now) pass.old }
-        ensures finds { (m : Moment) × StandsSince pass.old pass.new m
-            × Has self.now (the_row K.row V.row).coded.code m.before key.now (option_copied result) }
+        ensures reads { ReadsMap self.now (the_row K.row V.row).coded.code (G.its_slot guard.now) pass.old pass.new key.now
+            (option_copied result) }
         ensures pass { IsPassOf (G.its_collector guard.now) pass.new }
     {
         let found = self.cells.read(guard, self.place(key), pass);
         value(find(entries(bucket_of(found)), key))
     }
 
-    /// Puts a value under the key, and gives the entry that was there, if one was. At one moment of the call the map has that under the
-    /// key before, and this value after, and under every other key what it had.
+    /// Puts a value under the key, in the place of the entry of that key, and gives that entry, if there was one. It does so at one moment:
+    /// under every other key the map has what it had. The key is replaced too.
     ///
-    /// It takes memory for the entry and for the bucket with it. It tries again where another change of the bucket came first, `tries`
-    /// times in all, and waits as `Guard::defer_retire` does.
+    /// It takes memory for the entry, and for the bucket with it. Where another change of the same bucket came first it tries again, `tries`
+    /// times in all: give `u32::MAX` to go on until it is made. It waits as `Guard::defer_retire` does.
     ///
     /// # Errors
     ///
-    /// `NoMemory` where the allocator refused, and `Contended` where all tries were lost. The map is as it was then, but for what others
-    /// did, and the new entry ends.
+    /// `NoMemory` and `Refused` where the allocator refused, or an entry is counted too often. `Contended` where all tries were lost, as where
+    /// `tries` is 0. Then the call changed nothing, and the key and the value end.
     pub fn insert<G: Guard<Bucket<K, V>, At = C>, W: Wait>(
         &self,
         rt: &W,
@@ -140,13 +132,12 @@ impl<'c, K: Hash + Drop, V: Drop, S: BuildHasher + Drop, C: Home<Bucket<K, V>>> 
         requires of { IsForMap self.now (G.its_collector guard.now) pass.old }
         requires rule { MayReplace K.eq key (Some (record { key = key; value = value })) G.Reclaimer.keeps G.Reclaimer.owners
             (its_store (map_words self.now)) (place_of self.now key) }
-        ensures puts { IfOk result (ChangesAt self.now (the_row K.row V.row).coded.code (G.its_slot guard.now) pass.old pass.new
-            key (Some value)) }
-        ensures refused { IfErr result (IsRefused tries pass.old pass.new) }
+        ensures changes { ChangesMap self.now (the_row K.row V.row).coded.code (G.its_slot guard.now) key
+            (Some (record { key = key; value = value })) tries pass.old pass.new result }
         ensures pass { IsPassOf (G.its_collector guard.now) pass.new }
     {
         let Ok(entry) = Arc::new(self.alloc, Entry { key, value }) else {
-            return Err(NotChanged::NoMemory);
+            return Err(NotAltered::NoMemory);
         };
         let at = self.place(&entry.key);
         let alloc = self.alloc;
@@ -158,13 +149,13 @@ impl<'c, K: Hash + Drop, V: Drop, S: BuildHasher + Drop, C: Home<Bucket<K, V>>> 
             ensures { let new = arc_value entry.entry.now in
                 IfOk result (λ made. Replaces K.eq new.key (Some new) (option_copied bucket.entry) made) }
         { bucket::put(alloc, bucket, entry) };
-        changed(self.cells.alter(rt, guard, at, put, tries, pass))
+        self.cells.alter(rt, guard, at, put, tries, pass)
     }
 
-    /// Takes out what is under the key, and gives its entry, if there is one. At one moment of the call the map has that under the key
-    /// before, and nothing after, and under every other key what it had.
+    /// Takes out the entry of the key, and gives it, if there is one. It does so at one moment: under every other key the map has what it
+    /// had.
     ///
-    /// It takes memory for the bucket without it, and waits as `insert` does.
+    /// It takes memory for the bucket without the entry, and waits as `insert` does. It exchanges the bucket also where it has no such key.
     ///
     /// # Errors
     ///
@@ -180,9 +171,8 @@ impl<'c, K: Hash + Drop, V: Drop, S: BuildHasher + Drop, C: Home<Bucket<K, V>>> 
         requires of { IsForMap self.now (G.its_collector guard.now) pass.old }
         requires rule { MayReplace K.eq key.now None G.Reclaimer.keeps G.Reclaimer.owners (its_store (map_words self.now))
             (place_of self.now key.now) }
-        ensures takes { IfOk result (ChangesAt self.now (the_row K.row V.row).coded.code (G.its_slot guard.now) pass.old pass.new
-            key.now None) }
-        ensures refused { IfErr result (IsRefused tries pass.old pass.new) }
+        ensures changes { ChangesMap self.now (the_row K.row V.row).coded.code (G.its_slot guard.now) key.now None tries
+            pass.old pass.new result }
         ensures pass { IsPassOf (G.its_collector guard.now) pass.new }
     {
         let at = self.place(key);
@@ -193,19 +183,7 @@ impl<'c, K: Hash + Drop, V: Drop, S: BuildHasher + Drop, C: Home<Bucket<K, V>>> 
         >
             ensures { IfOk result (λ made. Replaces K.eq key.entry.now None (option_copied bucket.entry) made) }
         { bucket::take(alloc, bucket, key) };
-        changed(self.cells.alter(rt, guard, at, take, tries, pass))
-    }
-}
-
-// Why the map was not changed, as the map says it.
-fn changed<A>(altered: Result<A, NotAltered<AllocError>>) -> Result<A, NotChanged>
-    ensures made { IfOk result (λ a. altered ≡ Ok a) }
-    ensures refused { IfErr result (λ why. IsErr altered × (why ≡ contended → altered ≡ Err all_lost)) }
-{
-    match altered {
-        Ok(answer) => Ok(answer),
-        Err(NotAltered::Contended) => Err(NotChanged::Contended),
-        Err(_) => Err(NotChanged::NoMemory),
+        self.cells.alter(rt, guard, at, take, tries, pass)
     }
 }
 

@@ -1,4 +1,4 @@
-//! Threads that put in keys of their own, and one key of all: no insertion is lost.
+//! Threads that put in keys, of which neighbours have half in common: no insertion is lost.
 ghost use Rattle.std.specs.Prelude.{◌<◌, IfOk};
 ghost use Rattle.seize.specs.Collectors.{IsPassOf, its_links, its_words};
 ghost use Rattle.seize.specs.Guards.{guard_collector, owned_collector};

@@ -1,5 +1,4 @@
 use Rattle.std.proofs.Common.{rules, ◌≡◌, ℕ, Option, None, Some, IfSome, Bor, refl, sym, ap, subst, ◌∙◌}
-use Rattle.std.proofs.lemmas.Result.{IfErr-weaker, IfOk-weaker}
 use Rattle.std.specs.Prelude.{option_copied}
 use Rattle.core.specs.declared.result.Result.TheVariants.{Ok}
 use Rattle.seize.specs.Blocks.{HoldsOnly}
@@ -8,7 +7,7 @@ use Rattle.seize_atomic.proofs.Facts.{altered}
 use Rattle.seize_map.specs.Buckets.{IsReplaced, MayReplace, Replaces}
 use Rattle.seize_map.specs.contracts.bucket.Bucket.{the_row}
 use Rattle.seize_map.specs.declared.bucket.Bucket.{Bucket}
-use Rattle.seize_map.proofs.Changed.{alters_map, refuses_map}
+use Rattle.seize_map.proofs.Changed.{changes_map}
 use Rattle.seize_map.proofs.map.HashMap.remove.Goals as goal
 
 pub alter-requires-clause-may_hold : goal.alter-requires-clause-may_hold
@@ -18,16 +17,7 @@ alter-requires-clause-may_hold g c x y a answers =
     let may = c.requires.rule x y (subst (λ (o : _). IsReplaced eq key None o y) answers.1 made.0) in
     (subst (λ (i : ℕ). g.G.Reclaimer.Puts.keeps i x y) (sym c.place-at.ensures.place) may.0, subst (λ (words : _). IfSome y (HoldsOnly g.G.Reclaimer.Puts.owners (its_store words))) (sym c.requires.of.0) may.1)
 
-pub returns-clause-takes : goal.returns-clause-takes
-returns-clause-takes g c =
-    IfOk-weaker c.changed.result _ _
-    (alters_map c.args.self.now g.met.K.Eq.laws g.met.K.Hash.respects_eq (the_row g.row.K g.row.V).coded c.args.key.now None (λ x is. absurd (cc)) _ (λ x y a made. made.1)
-    c.place-at.result (g.G.Guard.its_slot c.args.guard.now) _ c.args.tries c.place-at.ensures.place c.args.pass.now c.alter.new.pass c.alter.result c.alter.ensures.alters)
-    c.changed.ensures.made
-
-pub returns-clause-refused : goal.returns-clause-refused
-returns-clause-refused g c =
-    IfErr-weaker c.changed.result _ _
-    (λ why is. refuses_map c.args.self.now g.met.K.Eq.laws g.met.K.Hash.respects_eq (the_row g.row.K g.row.V).coded c.args.key.now None (λ x is. absurd (cc)) _ (λ x y a made. made.1)
-    c.place-at.result (g.G.Guard.its_slot c.args.guard.now) _ c.args.tries c.place-at.ensures.place c.args.pass.now c.alter.new.pass c.alter.result c.alter.ensures.alters why is.0 is.1)
-    c.changed.ensures.refused
+pub returns-clause-changes : goal.returns-clause-changes
+returns-clause-changes g c =
+    changes_map c.args.self.now g.met.K.Eq.laws g.met.K.Hash.respects_eq (the_row g.row.K g.row.V).coded c.args.key.now None (λ x is. absurd (cc)) _ (λ x answer made. made.1)
+    c.place-at.result (g.G.Guard.its_slot c.args.guard.now) _ c.args.tries c.place-at.ensures.place c.args.pass.now c.alter.new.pass c.alter.result c.alter.ensures.alters refl
