@@ -110,16 +110,16 @@ impl<'c, K: Hash + Drop, V: Drop, S: BuildHasher + Drop, C: Home<Bucket<K, V>>> 
         value(find(entries(bucket_of(found)), key))
     }
 
-    /// Puts a value under the key, in the place of the entry of that key, and gives that entry, if there was one. It does so at one moment:
-    /// under every other key the map has what it had. The key is replaced too.
+    /// Puts a value under the key, in the place of the entry of that key, and gives that entry, if there was one. It does so at one
+    /// moment: under every other key the map has what it had. The key is replaced too.
     ///
-    /// It takes memory for the entry, and for the bucket with it. Where another change of the same bucket came first it tries again, `tries`
-    /// times in all: give `u32::MAX` to go on until it is made. It waits as `Guard::defer_retire` does.
+    /// It takes memory for the entry, and for the bucket with it. Where another change of the same bucket came first it tries again,
+    /// `tries` times in all: give `u32::MAX` to go on until it is made. It waits as `Guard::defer_retire` does.
     ///
     /// # Errors
     ///
-    /// `NoMemory` and `Refused` where the allocator refused, or an entry is counted too often. `Contended` where all tries were lost, as where
-    /// `tries` is 0. Then the call changed nothing, and the key and the value end.
+    /// `NoMemory` and `Refused` where the allocator refused, or an entry is counted too often. `Contended` where all tries were lost, as
+    /// where `tries` is 0. Then the call changed nothing, and the key and the value end.
     pub fn insert<G: Guard<Bucket<K, V>, At = C>, W: Wait>(
         &self,
         rt: &W,
