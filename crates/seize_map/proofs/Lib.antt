@@ -1,2 +1,3 @@
-pub mod Lookups
 pub mod Changed
+pub mod Facts
+pub mod Lookups
