@@ -1,12 +1,15 @@
 -- The map that the links of a collector show, in a state of the list of all events. `code` is the code of a bucket.
 --     map_home map, map_hasher map     its collector and its hasher;  map_words map     the words of the collector
+--     map_kind map              the kind as of which it retires
 --     IsForMap map words pass     these are the words of its collector, and the pass is one of it
 --     place_of map key          the bucket in which the key lies: its hash, modulo the number of buckets
 --     Has map code st key y     in this state the map has y under the key, or nothing
---     ReadsMap map code s pass pass' key y     slot s read the key's bucket, by one event, at a moment at which the map has y under the key
+--     ReadsMap map code s pass pass' key y     slot s read the key's bucket, by one event; and at a moment, of those that the pass has seen
+--                               since, its link holds what was read, and the map has y under the key
 --     Changes map code st st' key y     the keys equal to this one have y there, or nothing, and each other key what it had before
 --     ChangesAt map code s pass pass' key y was     at a moment, of those that the pass has seen since, slot s exchanges the key's bucket.
---                               Before it the map has what was under the key, whose key is equal to this; after it y, and else what it had
+--                               Before it the map has the value of `was` under the key, whose own key is equal to this one. After it the
+--                               map has y there, and under each other key what it had
 --     ChangesMap map code s key new tries pass pass' result     slot s altered the key's bucket (AltersCell), by a function that puts this
 --                               entry, or none, in the place of that of the key. Where it was made, it is such a moment. Or memory for the
 --                               entry was refused first, and nothing was made
@@ -49,6 +52,9 @@ module _ {K V S C H : Type 0} {k : hash.Ghosts K} {e : eq.Ghosts K} {b : builder
   abbrev pub map_hasher : S
   map_hasher = map.hasher
 
+  abbrev pub map_kind : ℕ
+  map_kind = cells_kind map.cells
+
   abbrev pub map_words : Words (Bucket K V)
   map_words = c.its_words map_home
 
@@ -81,5 +87,5 @@ module _ {K V S C H : Type 0} {k : hash.Ghosts K} {e : eq.Ghosts K} {b : builder
           → Result (Option (Arc (Entry K V) Z)) (NotAltered E) → Type 0
       ChangesMap s key new tries pass pass' result =
           (((pass' ≡ pass) × (result ≡ Err NoMemory))
-          ⊎ AltersCell (MakesBucket e.eq key new) code s (place_of key) (cells_kind map.cells) tries pass pass' result)
+          ⊎ AltersCell (MakesBucket e.eq key new) code s (place_of key) map_kind tries pass pass' result)
           × IfOk result (ChangesAt s pass pass' key (value_of new))

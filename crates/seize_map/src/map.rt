@@ -38,7 +38,7 @@ impl<'c, K: Hash + Drop, V: Drop, S: BuildHasher + Drop, R: Reclaim<Bucket<K, V>
     Collector<Bucket<K, V>, R>,
 > {
     ghost use Rattle.seize.specs.Collectors.{its_words};
-    ghost use Rattle.seize_map.specs.Maps.{map_hasher, map_home};
+    ghost use Rattle.seize_map.specs.Maps.{map_hasher, map_home, map_kind};
 
     /// The map of this collector: its bucket i is link i. It is empty where the links are. Another map of the same collector finds the same
     /// keys where its hasher puts them into the same buckets, and else loses them.
@@ -50,7 +50,7 @@ impl<'c, K: Hash + Drop, V: Drop, S: BuildHasher + Drop, R: Reclaim<Bucket<K, V>
         hasher: S,
     ) -> HashMap<'c, K, V, S, Collector<Bucket<K, V>, R>>
         requires some { 0 < its_links (its_words collector.now) }
-        ensures { (map_home result ≡ collector.now) × (map_hasher result ≡ hasher) }
+        ensures { (map_home result ≡ collector.now) × (map_hasher result ≡ hasher) × (map_kind result ≡ 0) }
     {
         HashMap {
             cells: Cells::new(collector),
@@ -118,8 +118,8 @@ impl<'c, K: Hash + Drop, V: Drop, S: BuildHasher + Drop, C: Home<Bucket<K, V>>> 
     ///
     /// # Errors
     ///
-    /// `NoMemory` and `Refused` where the allocator refused, or an entry is counted too often. `Contended` where all tries were lost, as
-    /// where `tries` is 0. Then the call changed nothing, and the key and the value end.
+    /// `NoMemory` and `Refused` where the allocator refused, or where an entry's count would overflow. `Contended` where all tries were
+    /// lost, as where `tries` is 0. Then the call changed nothing, and the key and the value end.
     pub fn insert<G: Guard<Bucket<K, V>, At = C>, W: Wait>(
         &self,
         rt: &W,
