@@ -6,4 +6,6 @@ mod alone;
 #[cfg(test)]
 mod ends;
 #[cfg(test)]
+mod refused;
+#[cfg(test)]
 mod threads;

@@ -1,5 +1,5 @@
 //! Calls that are made again where memory was refused: the second time each serves as if there had been no first one. The gate refuses
-//! them nothing; `tools/lacking seize_rows` refuses one request after another, and `tools/memory` all from a first sign on to a second one.
+//! one request after another, by `tools/lacking`, and `tools/memory` all from a first sign on to a second one.
 ghost use Rattle.std.specs.Prelude.{◌≡◌};
 ghost use Rattle.seize.specs.Collectors.{IsPassOf, its_words};
 ghost use Rattle.seize.specs.Guards.{owned_collector};
