@@ -64,7 +64,7 @@ pub trait Guard<T: Drop> {
         ensures refused { IfErr result (λ refused. (refused.0 ≡ no_memory) × (refused.1 ≡ value)) };
 
     /// Retires what came out of a link: it joins the slot's batch, which is attempted where it has the batch size or more. The slot is
-    /// active, so no value goes to the reclaimer in the call.
+    /// active, so the list hands no value in the call.
     ///
     /// It takes no memory. An insertion is tried again as often as other threads change the head between a look at it and the try. A local
     /// guard waits for ever within another call of the same registration; an owned guard waits while another thread has its lock.
@@ -79,7 +79,7 @@ pub trait Guard<T: Drop> {
         ensures call { Defers (its_slot self.now) (Retire (unlinked_name value.entry)) pass.old pass.new }
         ensures kind { IsOfKind (unlinked_name value.entry) kind pass.new };
 
-    /// Attempts the slot's batch at any length. No value goes to the reclaimer in the call, as in `defer_retire`.
+    /// Attempts the slot's batch at any length. The list hands no value in the call, as in `defer_retire`.
     ///
     /// It takes no memory and waits as `defer_retire` does.
     fn flush<W: Wait>(&self, rt: &W, pass: &mut Pass)
