@@ -104,7 +104,7 @@ module _ {K V S C H : Type 0} {k : hash.Ghosts K} {e : eq.Ghosts K} {b : builder
     elsewhere q other true is = absurd (other (sym (same_place q is)))
     elsewhere q other false is = refl
 
-    pub changes : (st st' : State) → Says coded.code (link_at st (place key)) before → Says coded.code (link_at st' (place key)) made.0 → ((l : ℕ) → l ≢ place key → link_at st' l ≡ link_at st l)
+    changes : (st st' : State) → Says coded.code (link_at st (place key)) before → Says coded.code (link_at st' (place key)) made.0 → ((l : ℕ) → l ≢ place key → link_at st' l ≡ link_at st l)
         → Changes map coded.code st st' key put
     changes st st' was is others q z has = go (cases_eq (place q) (place key))
       where
@@ -122,11 +122,11 @@ module _ {K V S C H : Type 0} {k : hash.Ghosts K} {e : eq.Ghosts K} {b : builder
         )
 
     -- **So an alteration of the bucket is a change of the map at its moment.**
-    pub changed_at : (s : ℕ) (pass pass' : Pass) (m : Moment) → StandsSince pass pass' m → Says coded.code (link_at m.before (place key)) before → Says coded.code (link_at m.after (place key)) made.0
+    changed_at : (s : ℕ) (pass pass' : Pass) (m : Moment) → StandsSince pass pass' m → Says coded.code (link_at m.before (place key)) before → Says coded.code (link_at m.after (place key)) made.0
         → ExchangesOnly s (place key) m → ChangesAt map coded.code s pass pass' key put made.1
     changed_at s pass pass' m since was is only = (m, since, only, (before, was, was_there), found_key made.1 (entries_in before) replaces.1, changes m.before m.after was is only.1)
 
-    pub altered_at : (l s : ℕ) (pass pass' : Pass) (m : Moment) → l ≡ place key → StandsSince pass pass' m → Says coded.code (link_at m.before l) before → Says coded.code (link_at m.after l) made.0
+    altered_at : (l s : ℕ) (pass pass' : Pass) (m : Moment) → l ≡ place key → StandsSince pass pass' m → Says coded.code (link_at m.before l) before → Says coded.code (link_at m.after l) made.0
         → ExchangesOnly s l m → ChangesAt map coded.code s pass pass' key put made.1
     altered_at l s pass pass' m at since was is only =
         changed_at s pass pass' m since (subst (λ (n : ℕ). Says coded.code (link_at m.before n) before) at was) (subst (λ (n : ℕ). Says coded.code (link_at m.after n) made.0) at is)
@@ -140,7 +140,7 @@ module _ {K V S C H : Type 0} {k : hash.Ghosts K} {e : eq.Ghosts K} {b : builder
       (gives : (x : Option (Bor (Bucket K V))) (answer : Result (Option (Bucket K V) × Option (Arc (Entry K V) Z)) E) → post x answer → MakesBucket e.eq key new x answer)
       (l s kind tries : ℕ) (at : l ≡ place key) (pass pass' : Pass) (result : Result (Option (Arc (Entry K V) Z)) (NotAltered E)) (alters : AltersCell post coded.code s l kind tries pass pass' result) where
     -- an alteration that was made
-    pub alters_map : (a : Option (Arc (Entry K V) Z)) → result ≡ Ok a → ChangesAt map coded.code s pass pass' key put a
+    alters_map : (a : Option (Arc (Entry K V) Z)) → result ≡ Ok a → ChangesAt map coded.code s pass pass' key put a
     alters_map a is =
         let t = at_ok _ result (altered post coded.code s l kind tries pass pass' result alters) a is in
         let x = t.2.0 in let y = t.2.1 in let answers = t.2.2 in
