@@ -33,7 +33,7 @@ pub use Rattle.seize_parts.proofs.Same.{same_ended, same_taken}
 -- what the rule of links carries on, and what a name says
 pub use Rattle.seize_parts.proofs.Ruled.{follows_between, held_after, held_at_last, held_between, held_from, held_through, held_throughout, holds_said, kept_within, says_once, since_seen}
 -- from a read or a won exchange to what the link holds later, by the rule; and a block in hand is what its name says
-pub use Rattle.seize_parts.proofs.Onwards.{earlier_since, end_onwards, named_says, read_onwards, read_there, read_till_read, still_since, won_onwards, won_there}
+pub use Rattle.seize_parts.proofs.Onwards.{earlier_since, end_onwards, lost_there, named_says, read_onwards, read_there, read_till_read, still_since, won_onwards, won_there}
 -- what calls made with a pass stands among the moments of which the laws speak, and in each list that goes on
 pub use Rattle.seize_parts.proofs.Stands.{made_since, read_found, reclaimed_still, retired_still}
 -- and a value whose retirement returned is retired there

@@ -6,7 +6,7 @@
 --     seen_by c         what it has seen of its list, as its porter knows: a pass that it gives goes on from there
 --     BeginsEmpty c links   its list begins with no slot, and with so many links, which are empty
 --     IsNewPassOf c pass    it is a pass of the collector, with which nothing was made. It has seen a legal list of the collector's, of
---                       which all laws hold (GoesOnTo)
+--                       which all laws hold (GoesOnTo). It is none that may add to the list alone
 --     IsRefusalFor processors id refusal     a new collector for so many processors, by a source of which this id is the next, may be
 --                       refused so
 use Rattle.std.specs.Fmt.{decimal}
@@ -14,7 +14,7 @@ use Rattle.std.specs.Prelude.{◌≡◌, ◌⊎◌, ℕ, ◌≤◌, ◌<◌, ◌
 use Rattle.seize_table.specs.declared.refusal.Refusal.{Refusal}
 use Rattle.seize_table.specs.declared.refusal.Refusal.TheVariants.{NoMemory, NoNumbers, TooManyProcessors}
 use Rattle.seize_book.specs.Entry.{Entry}
-use Rattle.seize_book.specs.Tokens.{Name}
+use Rattle.seize_book.specs.Tokens.{IsSole, Name}
 use Rattle.seize_book.specs.Porters.{GoesOnTo}
 use Rattle.seize_book.specs.declared.book.pass.Pass.{Pass}
 use Rattle.seize_words.specs.Joined.{words_book}
@@ -51,7 +51,7 @@ BeginsEmpty collector links =
 
 abbrev pub IsNewPassOf : {T R : Type 0} → Collector T R → Pass → Type 0
 IsNewPassOf collector pass =
-    IsPassOf (its_words collector) pass × (made_with pass ≡ []) × GoesOnTo pass.name (seen_by collector) pass.seen
+    IsPassOf (its_words collector) pass × (made_with pass ≡ []) × GoesOnTo pass.name (seen_by collector) pass.seen × ¬ (IsSole pass.id)
 
 -- in this order
 abbrev pub IsRefusalFor : ℕ → ℕ → Refusal → Type 0

@@ -8,6 +8,7 @@ mod blocks;
 mod clock;
 mod guards;
 mod lookups;
+mod maps;
 mod nests;
 mod swaps;
 mod team;

@@ -1,7 +1,8 @@
 //! The works by their names. `blocks` makes and ends blocks, `lookups` finds them, `swaps` swaps a word, `guards` makes the calls of
-//! registrations and guards, `nests` retires values with blocks inside, and `alone` is one caller.
+//! registrations and guards, `nests` retires values with blocks inside, `alone` is one caller, and `maps` has maps that threads share.
 use crate::clock::{Report, Samples};
 use crate::guards::{Job, ROW, Turns};
+use crate::maps::{self, Map};
 use crate::{alone, blocks, guards, lookups, nests, swaps};
 use std::alloc::Global;
 use std::io;
@@ -78,10 +79,28 @@ pub(crate) enum Work {
     SharedRead,
     /// New blocks put into 1,024 links, and what was there retired, by all threads under one guard.
     SharedUpdate,
+    /// A guard refreshes.
+    Refresh,
+    /// A guard reads the one link of all threads, and refreshes.
+    ReadRefresh,
+    /// A guard retires a new block that was in no link, and flushes.
+    Flush,
+    /// A map with 1,024 keys, of which nine turns of ten look one up, with a guard for each, and one puts a value under it.
+    Map10,
+    /// The same where every other turn puts a value in.
+    Map50,
+    /// `Map10` on the kit's map behind a `Mutex`.
+    Mutex10,
+    /// `Map50` on it.
+    Mutex50,
+    /// `Map10` on the kit's map behind an `RwLock`.
+    RwLock10,
+    /// `Map50` on it.
+    RwLock50,
 }
 
 /// All of them.
-const ALL: [Work; 29] = [
+const ALL: [Work; 38] = [
     Work::Make,
     Work::MakeBare,
     Work::MakeBox,
@@ -111,6 +130,15 @@ const ALL: [Work; 29] = [
     Work::Exchange1,
     Work::SharedRead,
     Work::SharedUpdate,
+    Work::Refresh,
+    Work::ReadRefresh,
+    Work::Flush,
+    Work::Map10,
+    Work::Map50,
+    Work::Mutex10,
+    Work::Mutex50,
+    Work::RwLock10,
+    Work::RwLock50,
 ];
 
 impl Work {
@@ -149,6 +177,15 @@ impl Work {
             Work::Exchange1 => "Exchange1",
             Work::SharedRead => "SharedRead",
             Work::SharedUpdate => "SharedUpdate",
+            Work::Refresh => "Refresh",
+            Work::ReadRefresh => "ReadRefresh",
+            Work::Flush => "Flush",
+            Work::Map10 => "Map10",
+            Work::Map50 => "Map50",
+            Work::Mutex10 => "Mutex10",
+            Work::Mutex50 => "Mutex50",
+            Work::RwLock10 => "RwLock10",
+            Work::RwLock50 => "RwLock50",
         }
     }
 
@@ -189,6 +226,9 @@ impl Work {
             Work::Mix90 => Turns::visits(STEP, 32, 90),
             Work::Retire => Turns::retire(),
             Work::Exchange1 => Turns::of(Job::Exchange, 50_000, 1),
+            Work::Refresh => Turns::of(Job::Refresh, 50_000, 1),
+            Work::ReadRefresh => Turns::of(Job::ReadRefresh, 50_000, 1),
+            Work::Flush => Turns::of(Job::Flush, 20_000, 1),
             _ => Turns::visits(0, 32, 0),
         }
     }
@@ -230,6 +270,12 @@ impl Work {
             Work::SharedRead | Work::SharedUpdate => {
                 guards::measure_shared(rt, threads, alloc, self.turns(), &mut samples)?
             }
+            Work::Map10 => maps::measure(rt, threads, alloc, Map::Links, 10, &mut samples)?,
+            Work::Map50 => maps::measure(rt, threads, alloc, Map::Links, 50, &mut samples)?,
+            Work::Mutex10 => maps::measure(rt, threads, alloc, Map::Mutex, 10, &mut samples)?,
+            Work::Mutex50 => maps::measure(rt, threads, alloc, Map::Mutex, 50, &mut samples)?,
+            Work::RwLock10 => maps::measure(rt, threads, alloc, Map::RwLock, 10, &mut samples)?,
+            Work::RwLock50 => maps::measure(rt, threads, alloc, Map::RwLock, 50, &mut samples)?,
             _ => guards::measure(rt, threads, alloc, self.turns(), &mut samples)?,
         }
         Ok(samples.report())

@@ -1,7 +1,8 @@
 -- What other crates may build on.
 --     has_once                  a state says one thing of a key
+--     has_entries               what a bucket has of a key that lies there, the map has
 --     has_still                 and where the key's link holds what it held, it says that still
-use Rattle.std.proofs.Common.{◌≡◌, ℕ, Option, ap, sym, ◌∙◌, subst}
+use Rattle.std.proofs.Common.{◌≡◌, ℕ, List, Option, ap, sym, ◌∙◌, subst}
 use base.Stored.{Coded}
 use Rattle.core.specs.declared.cmp.PartialEq as eq
 use Rattle.core.specs.declared.hash.Hash as hash
@@ -11,9 +12,11 @@ use Rattle.seize.specs.Machine.State.{State, link_at}
 use Rattle.seize.specs.Rules.{Says}
 use Rattle.seize.proofs.Facts.{says_once}
 use Rattle.seize_parts.specs.declared.parts.Home as home
-use Rattle.seize_map.specs.Buckets.{value_in}
-use Rattle.seize_map.specs.Maps.{Has, place_of}
+use Rattle.seize_book.specs.declared.book.pass.Pass.{Pass}
+use Rattle.seize_map.specs.Buckets.{entry_under, value_in, value_of}
+use Rattle.seize_map.specs.Maps.{Has, ReadsBucket, place_of}
 use Rattle.seize_map.specs.declared.bucket.Bucket.{Bucket}
+use Rattle.seize_map.specs.declared.bucket.Entry.{Entry}
 use Rattle.seize_map.specs.declared.map.HashMap.{HashMap}
 
 module _ {K V S C H : Type 0} {k : hash.Ghosts K} {e : eq.Ghosts K} {b : builder.Ghosts S H} {h : hasher.Ghosts H} {c : home.Ghosts C (Bucket K V)} (map : HashMap K V S C H k e b h c) (coded : Coded (Bucket K V)) (key : K) where
@@ -24,3 +27,9 @@ module _ {K V S C H : Type 0} {k : hash.Ghosts K} {e : eq.Ghosts K} {b : builder
 
   pub has_still : (st st' : State) (y : Option V) → link_at st' (place_of map key) ≡ link_at st (place_of map key) → Has map coded.code st key y → Has map coded.code st' key y
   has_still st st' y same has = (has.0, subst (λ (o : Option ℕ). Says coded.code o has.0) (sym same) has.1, has.2)
+
+  pub has_entries : (s i : ℕ) (pass pass' : Pass) (es : List (Entry K V)) (reads : ReadsBucket map coded.code s i pass pass' es) → place_of map key ≡ i
+      → Has map coded.code reads.2.0.before key (value_of (entry_under (e.eq key) es))
+  has_entries s i pass pass' es reads at =
+      let m = reads.2.0 in let bucket = reads.2.4 in
+      (bucket.0, subst (λ (o : Option ℕ). Says coded.code o bucket.0) (sym (ap (link_at m.before) at ∙ reads.2.1)) bucket.1, ap (λ (xs : List (Entry K V)). value_of (entry_under (e.eq key) xs)) bucket.2)

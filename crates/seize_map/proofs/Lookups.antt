@@ -1,7 +1,6 @@
 -- What a bucket has under each key once an entry took the place of the one of its key, or that is gone.
-use Rattle.std.proofs.Common.{◌≡◌, Bool, true, false, not, filter, cond, List, [], ◌∷◌, ◌++◌, Option, None, Some, option_to_list, refl, ap, sym, ◌∙◌, subst}
+use Rattle.std.proofs.Common.{◌≡◌, Bool, true, false, not, cond, List, [], ◌∷◌, ◌++◌, Option, None, Some, option_to_list, refl, ap, sym, ◌∙◌}
 use Rattle.std.proofs.lemmas.List.Folds.{find-append}
-use Rattle.std.specs.List.{find}
 use Rattle.std.specs.Option.{option_or}
 use Rattle.core.specs.Cmp.{IsEquivalence}
 use Rattle.seize_map.specs.Buckets.{entry_under, other_entries}

@@ -126,3 +126,78 @@ fn no_try_changes_nothing(rt: HostRuntime) -> Result<(), Fail> {
     assert!(rt; told == (true, true, [None, None, None]));
     Ok(())
 }
+
+// What two insertions where there may be nothing give, and which of two keys are there then.
+type New = ([Option<u64>; 2], [bool; 2], [Option<u64>; 3]);
+
+fn tell_new<W: Wait>(
+    rt: &W,
+    map: &Map<'_>,
+    guard: &Guard<'_>,
+    pass: &mut Pass,
+) -> Result<New, NotChanged>
+    requires of { IsForMap map.now (owned_collector guard.now) pass.old }
+    ensures pass { IsPassOf (owned_collector guard.now) pass.new }
+{
+    let first = value(map.insert_new(rt, guard, 1, 10, 1, pass)?);
+    let second = value(map.insert_new(rt, guard, 1, 11, 1, pass)?);
+    let one = map.contains_key(guard, &1, pass);
+    let two = map.contains_key(guard, &2, pass);
+    Ok(([first, second], [one, two], found(map, guard, pass)))
+}
+
+#[test]
+fn an_insertion_of_a_new_key_leaves_what_is_there(rt: HostRuntime) -> Result<(), Fail> {
+    let collector = collector(rt.alloc(), 7)?;
+    let map = HashMap::new(&collector, rt.alloc(), BuildHasherDefault::new());
+    let mut pass = collector.pass();
+    let guard = collector.enter_owned(&rt, &mut pass)?;
+    let told = tell_new(&rt, &map, &guard, &mut pass);
+    guard.leave(&rt, &mut pass);
+    assert!(rt; told == Ok(([None, Some(10)], [true, false], [Some(10), None, None])));
+    Ok(())
+}
+
+// How many entries a walk over the buckets yields, and the sum of their values.
+fn walk(map: &Map<'_>, guard: &Guard<'_>, pass: &mut Pass) -> (u64, u64)
+    requires of { IsForMap map.now (owned_collector guard.now) pass.old }
+    ensures pass { IsPassOf (owned_collector guard.now) pass.new }
+{
+    let mut many = 0u64;
+    let mut sum = 0u64;
+    for i in 0..map.buckets() {
+        for entry in map.entries(guard, i, pass) {
+            many = many.wrapping_add(1);
+            sum = sum.wrapping_add(entry.value);
+        }
+    }
+    (many, sum)
+}
+
+fn put_some<W: Wait>(
+    rt: &W,
+    map: &Map<'_>,
+    guard: &Guard<'_>,
+    pass: &mut Pass,
+) -> Result<(u64, u64), NotChanged>
+    requires of { IsForMap map.now (owned_collector guard.now) pass.old }
+    ensures pass { IsPassOf (owned_collector guard.now) pass.new }
+{
+    for key in 0..20 {
+        map.insert(rt, guard, key, key, 1, pass)?;
+    }
+    map.remove(rt, guard, &7, 1, pass)?;
+    Ok(walk(map, guard, pass))
+}
+
+#[test]
+fn a_walk_yields_each_entry(rt: HostRuntime) -> Result<(), Fail> {
+    let collector = collector(rt.alloc(), 4)?;
+    let map = HashMap::new(&collector, rt.alloc(), BuildHasherDefault::new());
+    let mut pass = collector.pass();
+    let guard = collector.enter_owned(&rt, &mut pass)?;
+    let told = put_some(&rt, &map, &guard, &mut pass);
+    guard.leave(&rt, &mut pass);
+    assert!(rt; told == Ok((19, 183)));
+    Ok(())
+}

@@ -8,4 +8,6 @@ mod ends;
 #[cfg(test)]
 mod refused;
 #[cfg(test)]
+mod sessions;
+#[cfg(test)]
 mod threads;

@@ -3,7 +3,7 @@ use Rattle.std.proofs.Common.{◌≡◌, ◌⊎◌, ℕ, ◌+◌, List, Option, 
 use denote.Bor.{Bor}
 use Rattle.seize_machine.specs.Machine.Event.{Event, ExchangeLink, ReadLink}
 use Rattle.seize_machine.specs.declared.machine.event.Answer.{Answer}
-use Rattle.seize_machine.specs.declared.machine.event.Exchange.TheVariants.{Compare}
+use Rattle.seize_machine.specs.declared.machine.event.Exchange.TheVariants.{Compare, Swap}
 use Rattle.seize_book.specs.Blocks.{block_number, link_word}
 use Rattle.seize_book.specs.Books.{Learns}
 use Rattle.seize_book.specs.Laws.{Reader}
@@ -13,7 +13,7 @@ use Rattle.seize_book.proofs.Loans.{reader_later}
 use Rattle.seize_parts.proofs.Made.{none_learned, none_then}
 use Rattle.seize_book.specs.declared.book.pass.Pass.{Pass}
 use Rattle.seize_book.specs.declared.book.seen.Seen.{Seen}
-use Rattle.seize_words.specs.LinkWords.{CompareExchanges, Finds, WasFoundIn, held_before, link_number, value_held}
+use Rattle.seize_words.specs.LinkWords.{CompareExchanges, Finds, Swaps, WasFoundIn, held_before, link_number, value_held}
 use Rattle.seize_words.specs.declared.activation.Activation.{Activation}
 use Rattle.seize_words.specs.declared.glimpse.Glimpse.{Glimpse}
 use Rattle.seize_words.specs.declared.link.Link.{Link}
@@ -75,3 +75,6 @@ none_held (Some w) is = absurd (let e : block_number w + 1 ≡ 0 = is in omega (
 pub exchange_found : (link : Link) (a : Activation) (key : MaybeKey) (pass : Pass) (current : Option ℕ) (key' : MaybeKey) (pass' : Pass) (v : ℕ) (glimpse : Glimpse)
     (t : CompareExchanges link a key pass current key' pass' v glimpse) → FoundIn a (held_before t.0) pass'
 exchange_found link a key pass current key' pass' v glimpse t w is = was_found link a pass pass' (ExchangeLink a.slot (link_number link) (Compare current (value_held key))) v w t.0 (refl, refl) is
+
+pub swap_found : (link : Link) (a : Activation) (key : MaybeKey) (pass : Pass) (key' : MaybeKey) (pass' : Pass) (v : ℕ) (t : Swaps link a key pass key' pass' v) → FoundIn a (held_before t.0) pass'
+swap_found link a key pass key' pass' v t w is = was_found link a pass pass' (ExchangeLink a.slot (link_number link) (Swap (value_held key))) v w t.0 (refl, refl) is

@@ -1,5 +1,5 @@
 -- Reads and won exchanges of links among the moments that a pass has seen, and what the rule of links carries on from them.
-use Rattle.std.proofs.Common.{◌≡◌, ℕ, ◌≤◌, true, List, length, slice_get, Option, Some, None, [], inl, refl, sym, subst, ◌∙◌, append-nil, arith}
+use Rattle.std.proofs.Common.{◌≡◌, ◌≢◌, ℕ, ◌≤◌, true, List, length, slice_get, Option, Some, None, [], inl, inr, refl, sym, ap, subst, ◌∙◌, append-nil, arith}
 use Rattle.std.proofs.lemmas.Option.{slice_get_within}
 use base.Growing.{prefix_trans}
 use base.Stored.{Coded, Gv}
@@ -12,7 +12,7 @@ use Rattle.seize_machine.specs.declared.machine.event.Answer.{Answer}
 use Rattle.seize_machine.specs.declared.machine.event.Answer.TheVariants.{Link}
 use Rattle.seize_machine.specs.declared.machine.event.Exchange.{Exchange}
 use Rattle.seize_machine.specs.declared.machine.event.Exchange.TheVariants.{Compare}
-use Rattle.seize_machine.proofs.Facts.{Step}
+use Rattle.seize_machine.proofs.Facts.{Step, eq_true}
 use Rattle.seize_book.specs.Book.{after, moments}
 use Rattle.seize_book.specs.Entry.{Entry}
 use Rattle.seize_book.specs.Homesteads.{state_seen}
@@ -27,7 +27,7 @@ use Rattle.seize_parts.proofs.Made.{makes_then}
 use Rattle.seize_parts.proofs.Moments.{is_step, moment_still, no_fewer, others_stay, won_puts}
 use Rattle.seize_parts.proofs.Ruled.{held_at_last, held_between, held_from, held_through, holds_said, kept_within, since_seen}
 use Rattle.seize_parts.proofs.Stands.{made_since}
-use Rattle.seize_parts.specs.Moments.{ExchangesOnly, StandsSince}
+use Rattle.seize_parts.specs.Moments.{ExchangesOnly, LooksOnly, StandsSince}
 
 -- A read answers what the link holds, and so does an exchange.
 
@@ -45,15 +45,43 @@ same_linked : (o : Option ℕ) → same_link o o ≡ true
 same_linked (Some v) = grind arith
 same_linked None = refl
 
+linked_same : (o p : Option ℕ) → same_link o p ≡ true → o ≡ p
+linked_same (Some v) (Some w) is = ap Some (eq_true v w is)
+linked_same None None is = refl
+linked_same (Some v) None is = absurd (cc)
+linked_same None (Some w) is = absurd (cc)
+
+-- Neither a read nor a lost exchange changes anything.
+
+read_keeps : (size s l : ℕ) (st : State) (d : State × Answer) → Step size st (ReadLink s l) d → d.0 ≡ st
+read_keeps size s l st _ (Step.read _ _ can) = refl
+
+lost_keeps : (size s l : ℕ) (x : Exchange) (st : State) (d : State × Answer) → Step size st (ExchangeLink s l x) d → ¬ (is_stored (link_at st l) x ≡ true) → d.0 ≡ st
+lost_keeps size s l x st _ (Step.exchanged _ _ _ new can fresh stored) lost = absurd (lost stored.1)
+lost_keeps size s l x st _ (Step.compared _ _ _ can differs) lost = refl
+
 -- **A read that was made with a pass stands at a moment that it has seen since, before which the link holds what was read.**
-pub read_there : (s l : ℕ) (held : Option ℕ) {p q : Pass} → MakesOne p q (ReadLink s l) (Link held) → (m : Moment) × StandsSince p q m × (link_at m.before l ≡ held)
+pub read_there : (s l : ℕ) (held : Option ℕ) {p q : Pass} → MakesOne p q (ReadLink s l) (Link held) → (m : Moment) × StandsSince p q m × (link_at m.before l ≡ held) × LooksOnly s l m
 read_there s l held {p} {q} makes =
     let there = made_since (ReadLink s l, Link held) makes (inl refl) in let m = there.2.0 in
     let step : Step m.timed.size m.before (ReadLink s l) (m.after, m.answer) =
     subst (λ (e : Event). Step m.timed.size m.before e (m.after, m.answer)) there.2.2 (is_step (start q.name) q.seen there.0 m makes.legal there.2.1) in
-    (m, (there.0, there.1, there.2.1), read_step m.timed.size s l m.before (m.after, m.answer) held step there.2.3)
+    let same : m.after ≡ m.before = read_keeps m.timed.size s l m.before (m.after, m.answer) step in
+    (m, (there.0, there.1, there.2.1), read_step m.timed.size s l m.before (m.after, m.answer) held step there.2.3, (inl there.2.2, λ k. ap (λ (st : State). link_at st k) same))
 
--- **So does a won exchange, after which the link holds what was put there, and each other link what it held.**
+-- **So does a lost exchange, before which the link holds what it answered.**
+pub lost_there : (s l : ℕ) (held found put : Option ℕ) {p q : Pass} → found ≢ held → MakesOne p q (ExchangeLink s l (Compare found put)) (Link held)
+    → (m : Moment) × StandsSince p q m × (link_at m.before l ≡ held) × LooksOnly s l m
+lost_there s l held found put {p} {q} differs makes =
+    let x : Exchange = Compare found put in
+    let there = made_since (ExchangeLink s l x, Link held) makes (inl refl) in let m = there.2.0 in
+    let step : Step m.timed.size m.before (ExchangeLink s l x) (m.after, m.answer) =
+    subst (λ (e : Event). Step m.timed.size m.before e (m.after, m.answer)) there.2.2 (is_step (start q.name) q.seen there.0 m makes.legal there.2.1) in
+    let was : link_at m.before l ≡ held = exchange_step m.timed.size s l x m.before (m.after, m.answer) held step there.2.3 in
+    let same : m.after ≡ m.before = lost_keeps m.timed.size s l x m.before (m.after, m.answer) step (λ won. differs (sym (linked_same (link_at m.before l) found won) ∙ was)) in
+    (m, (there.0, there.1, there.2.1), was, (inr (x, there.2.2), λ k. ap (λ (st : State). link_at st k) same))
+
+-- **So does a won exchange, before which it holds what was taken to be there, and after which the link holds what was put there, and each other link what it held.**
 pub won_there : (s l : ℕ) (held put : Option ℕ) {p q : Pass} → MakesOne p q (ExchangeLink s l (Compare held put)) (Link held)
     → (m : Moment) × StandsSince p q m × (link_at m.before l ≡ held) × (link_at m.after l ≡ put) × ExchangesOnly s l m
 won_there s l held put {p} {q} makes =

@@ -7,7 +7,7 @@ ghost use Rattle.seize_calls.specs.Slots.{IsPassOf};
 ghost use Rattle.seize_parts.specs.Blocks.{content};
 ghost use Rattle.seize_parts.specs.Links.{IsUnlinkedOf, unlinked_name};
 ghost use Rattle.seize_parts.specs.Collectors.{IsBlockOf};
-ghost use Rattle.seize_parts.specs.Guards.{core_activation, core_collector, core_slot};
+ghost use Rattle.seize_parts.specs.Guards.{core_activation, core_collector, core_home, core_slot};
 ghost use Rattle.seize_parts.specs.Puts.{PutBy};
 ghost use Rattle.seize_parts.specs.Makes.{Defers, IsOfKind, MakesCall, StaysActive};
 ghost use Rattle.seize_words.specs.declared.activation.Activation.{Activation};
@@ -37,6 +37,9 @@ pub trait Guard<T: Drop> {
     /// The collector, which `core().collector()` gives.
     type At: Home<T>;
 
+    /// The collector itself.
+    ghost its_home: { Self → Self.At };
+
     /// The words of the collector.
     ghost its_collector: { Self → Words T };
 
@@ -52,7 +55,7 @@ pub trait Guard<T: Drop> {
     /// What it reads and exchanges links with.
     fn core(&self) -> &GuardCore<'_, T, Self::Reclaimer, Self::At>
         ensures { (core_collector result.now ≡ its_collector self.now) × (core_slot result.now ≡ its_slot self.now)
-            × (core_activation result.now ≡ its_activation self.now) };
+            × (core_activation result.now ≡ its_activation self.now) × (core_home result.now ≡ its_home self.now) };
 
     /// A block of this value. `LocalGuard` makes it of one of its slot's that is gone, where there is one.
     ///
@@ -93,8 +96,8 @@ pub trait Guard<T: Drop> {
     /// guard waits for nobody.
     fn refresh<W: Wait>(&mut self, rt: &W, pass: &mut Pass)
         requires of { IsPassOf (its_collector self.old) pass.old }
-        ensures same { (its_collector self.new ≡ its_collector self.old)
-            × (its_slot self.new ≡ its_slot self.old) }
+        ensures same { (its_collector self.new ≡ its_collector self.old) × (its_slot self.new ≡ its_slot self.old)
+            × (its_home self.new ≡ its_home self.old) }
         ensures refreshes { MakesCall (PutBy T.row.coded.code Self.Reclaimer.puts) (its_slot self.old) Refresh pass.old pass.new
             ⊎ (has_others × StaysActive (its_slot self.old) pass.old pass.new
             × (its_activation self.new ≡ its_activation self.old)) };

@@ -28,6 +28,12 @@ pub(crate) enum Job {
     Retire,
     /// It enters, swaps nothing into the first link, and leaves.
     Exchange,
+    /// Its guard refreshes.
+    Refresh,
+    /// Its guard reads the first link, and refreshes.
+    ReadRefresh,
+    /// Its guard retires the value of a new block, and flushes.
+    Flush,
 }
 
 /// A job, and how often it is done.
@@ -103,6 +109,11 @@ impl Turns {
             Job::See => see_many(registration, self.turns, rt, &mut pass),
             Job::Retire => retire_many(registration, self.turns, rt, &mut pass),
             Job::Exchange => exchange_many(registration, self.turns, rt, &mut pass),
+            Job::Refresh | Job::ReadRefresh => {
+                let reads = self.job == Job::ReadRefresh;
+                refresh_many(registration, self.turns, reads, rt, &mut pass)
+            }
+            Job::Flush => flush_many(registration, self.turns, rt, &mut pass),
         }
     }
 
@@ -351,6 +362,49 @@ fn retire_many<W: Wait>(
         done?;
     }
     Ok(turns)
+}
+
+// Refreshes a guard so many times, and before that reads the first link, if it is to.
+fn refresh_many<W: Wait>(
+    registration: &Registration<'_, u64>,
+    turns: u64,
+    reads: bool,
+    rt: &W,
+    pass: &mut Pass,
+) -> Result<u64, Refusal>
+    requires { IsPassOf (registered_in registration.now) pass.old × (its_links (registered_in registration.now) ≡ 1024) }
+{
+    let mut guard = registration.enter(pass)?;
+    let mut sum: u64 = 0;
+    for _ in 0..turns {
+        if reads {
+            sum = sum.wrapping_add(guard.protect(0, pass).map_or(0, |shared| *shared));
+        }
+        guard.refresh(rt, pass);
+    }
+    guard.leave(rt, pass);
+    Ok(sum)
+}
+
+// Retires so many values of new blocks, and flushes after each.
+fn flush_many<W: Wait>(
+    registration: &Registration<'_, u64>,
+    turns: u64,
+    rt: &W,
+    pass: &mut Pass,
+) -> Result<u64, Refusal>
+    requires { IsPassOf (registered_in registration.now) pass.old }
+{
+    let guard = registration.enter(pass)?;
+    let mut done = Ok(turns);
+    for _ in 0..turns {
+        if let Err(refusal) = retire_new(registration, 1, rt, pass) {
+            done = Err(refusal);
+        }
+        guard.flush(rt, pass);
+    }
+    guard.leave(rt, pass);
+    done
 }
 
 /// Reads all links so many times over, under a guard that threads share. It gives the sum of the values.

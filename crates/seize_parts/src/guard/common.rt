@@ -129,7 +129,8 @@ impl<'c, T: Drop, R: Reclaim<T>, C: Home<T>> GuardCore<'c, T, R, C> {
         requires rule { (x : Option T) → R.keeps link x (content_of value) }
         ensures of { IfSome result (IsUnlinkedOf (core_collector self.now)) }
         ensures made { (new : Option ℕ) × (held : Option ℕ) × IsNamed T.row.coded.code value new × ComesOut held result
-            × MakesOne pass.old pass.new (ExchangeLink (core_slot self.now) link (Swap new)) (Link held) }
+            × MakesOne pass.old pass.new (ExchangeLink (core_slot self.now) link (Swap new)) (Link held)
+            × FoundIn (core_activation self.now) held pass.new }
     {
         let parts = self.parts;
         let words = &parts.words;

@@ -130,11 +130,13 @@ impl<'c, T: Drop, R: Reclaim<T>, C: Home<T>> Deref for LocalGuard<'_, 'c, T, R, 
 }
 
 impl<T: Drop, R: Reclaim<T>, C: Home<T>> Guard<T> for LocalGuard<'_, '_, T, R, C> {
-    ghost use Rattle.seize_parts.specs.Guards.{core_activation, guard_core, guard_collector, guard_slot};
+    ghost use Rattle.seize_parts.specs.Guards.{core_activation, guard_core, guard_collector, guard_home, guard_slot};
 
     type Reclaimer = R;
 
     type At = C;
+
+    ghost its_home = { λ guard. guard_home guard };
 
     ghost its_collector = { λ guard. guard_collector guard };
 

@@ -193,11 +193,13 @@ impl<'c, T: Drop, R: Reclaim<T>, C: Home<T>> Deref for OwnedGuard<'c, T, R, C> {
 }
 
 impl<T: Drop, R: Reclaim<T>, C: Home<T>> Guard<T> for OwnedGuard<'_, T, R, C> {
-    ghost use Rattle.seize_parts.specs.Guards.{core_activation, owned_core, owned_collector, owned_slot};
+    ghost use Rattle.seize_parts.specs.Guards.{core_activation, owned_core, owned_collector, owned_home, owned_slot};
 
     type Reclaimer = R;
 
     type At = C;
+
+    ghost its_home = { λ guard. owned_home guard };
 
     ghost its_collector = { λ guard. owned_collector guard };
 

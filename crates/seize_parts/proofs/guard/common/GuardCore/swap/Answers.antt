@@ -6,6 +6,7 @@ use Rattle.seize_book.specs.declared.book.pass.Pass.{Pass}
 use Rattle.seize_parts.specs.Enders.{IsEnderIn}
 use Rattle.seize_parts.specs.Links.{ComesOut}
 use Rattle.seize_parts.proofs.Allowing.{allows_any}
+use Rattle.seize_parts.proofs.Found.{swap_found}
 use Rattle.seize_parts.proofs.Guarded.{guard_swaps}
 use Rattle.seize_parts.proofs.Readable.{swapped_readable}
 use Rattle.seize_words.specs.Joined.{words_book}
@@ -31,4 +32,5 @@ returns-clause-made g c =
       subst (λ (o : Option ℕ). ComesOut o c.found.result) s.2 c.found.ensures.out,
       guard_swaps (words_book core.parts.now.words) core.number core.unit core.seen (core.its, core.known) c.args.link swaps.0 swaps.1.1 c.args.pass.now c.learn.new.self c.learn.ensures key c.name-new.new.pass key' c.swap_link-old.new.pass
           c.swap_link-old.result c.name-new.ensures.pass s,
+      swap_found swaps.0 core.unit key c.name-new.new.pass key' c.swap_link-old.new.pass c.swap_link-old.result s,
     )
