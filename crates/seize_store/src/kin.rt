@@ -1,11 +1,13 @@
 //! Values that are of a family, and cells of `once_cell` at the type of those of one family. `once_of` hides which family that is.
-ghost use Rattle.std.specs.Prelude.{◌≡◌, ℕ, IfOk, None, Some};
+ghost use Rattle.std.specs.Prelude.{◌≡◌, ℕ, IfOk, IsSome, None, Some};
 ghost use Rattle.std.specs.Option.{MatchOption};
 ghost use Rattle.once_cell.specs.Once.{Agrees, cell_name};
 
 use once_cell::race::{Note, OnceBox};
 use std::alloc::{AllocError, Global};
 use std::marker::{Brand, Model, PhantomData};
+use std::sync::atomic::Ordering::SeqCst;
+use std::sync::atomic::raw;
 
 /// What can be of a family.
 pub(crate) trait Kin {
@@ -86,6 +88,28 @@ pub(crate) fn found_in<'a, T: Kin, F: Named>(
         Some(child) => (Some(child.get()), note),
         None => (None, note),
     }
+}
+
+// What the cell has, for whoever has a note that knows it: the pointer that the load gives is not tested.
+fn pointed<'a, U>(cell: &'a OnceBox<U>, note: &mut Note<U>) -> &'a U
+    requires { (note.old.cell ≡ cell_name cell.now) × IsSome note.old.known }
+    ensures { (note.new.known ≡ Some result.now) × Agrees note.old.known result.now }
+{
+    let word = cell as *const OnceBox<U> as *const *mut U;
+    let at = unsafe { raw::ptr::load::<U, Brand>(word, SeqCst) };
+    unsafe { &*at }
+}
+
+/// The same of a value of that family.
+pub(crate) fn known_in<'a, T: Kin, F: Named>(
+    cell: &'a OnceBox<Child<T, F>>,
+    note: Note<Child<T, F>>,
+) -> &'a T
+    requires { (note.cell ≡ cell_name cell.now) × IsSome note.known }
+    ensures { note.known ≡ Some result.now }
+{
+    let mut note = note;
+    pointed(cell, &mut note).get()
 }
 
 /// Puts the value into the cell if that is empty. What the cell has then, and a note that knows it.

@@ -57,14 +57,22 @@ impl<H, P: Labelled, T> Lender<H, P, T> {
         (ticket, pool)
     }
 
-    /// Ends the loan: the block is in hand again. The chunk says where it lies.
-    pub(crate) fn back(&self, chunk: &Chunk<H, P, T>, ticket: Ticket, pool: Pool) -> Hull<H, P, T>
-        requires { (lies_with chunk.now ≡ lent_from self.now) × ((ticket.name ≡ right_of self.now.tag) × IsLent ticket pool) }
+    /// Ends the loan: the block is in hand again, found by where the row's chunks begin.
+    pub(crate) fn back(
+        &self,
+        base: &Base<H, P, T>,
+        entry: usize,
+        ticket: Ticket,
+        pool: Pool,
+    ) -> Hull<H, P, T>
+        requires { (entry < length base.now.places) × (self.now.at ≡ at_entry base.now.places entry)
+            × (ticket.name ≡ right_of self.now.tag) × IsLent ticket pool }
         ensures { (hull_with result ≡ lent_from self.now) × (T.row.coded.code result.value ≡ pool.value) }
     {
         let Ticket { marker: _ } = ticket;
         let Pool { marker: _ } = pool;
-        let at = chunk.at;
+        let first = base.at;
+        let at = unsafe { first.add(entry) };
         Hull { at }
     }
 

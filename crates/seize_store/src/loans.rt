@@ -28,6 +28,8 @@ impl<H: Labelled + Drop, P: Labelled + Drop, T: Drop> Store<H, P, T> {
     }
 
     /// The block of that number, in hand again, with a value of the code that was lent. It takes no memory and no atomic step.
+    ///
+    /// Two loads, of which one waits for the other: the row's cell, and where its chunks begin.
     pub fn back(&self, number: usize, known: &RowToken, ticket: Ticket, pool: Pool) -> Bare<H, P, T>
         requires store { known.now.store ≡ store_name self.now }
         requires row { IsRowOf known.now number }

@@ -1,13 +1,13 @@
 //! A cell that is filled at most once, and only with what is of the cell's family. It wraps a cell of `once_cell`, whose contracts say
 //! nothing of what other threads put there. The rows of a store lie in such cells.
-ghost use Rattle.std.specs.Prelude.{◌≡◌, ℕ, IfOk, None, Some};
+ghost use Rattle.std.specs.Prelude.{◌≡◌, ℕ, IfOk, IsSome, None, Some};
 ghost use Rattle.std.specs.Option.{MatchOption};
 ghost use Rattle.std.specs.declared.alloc.Global.{Global as Heap};
 ghost use Rattle.once_cell.specs.Once.{Agrees, cell_name};
 ghost use Rattle.seize_store.specs.Kept.{once_owns, once_shares};
 
 use crate::family::Family;
-use crate::kin::{Child, Kin, NoteOf, empty_cell, ended, found_in, note_of, put_in};
+use crate::kin::{Child, Kin, NoteOf, empty_cell, ended, found_in, known_in, note_of, put_in};
 use once_cell::race::OnceBox;
 use std::alloc::{AllocError, Global};
 use std::marker::{Brand, Move, Owns};
@@ -51,6 +51,14 @@ impl<T: Kin> OnceOf<T> {
             (λ r. (result.1.known ≡ Some r.now) × Agrees note.known r.now × T.is_of self.now.0 r.now) }
     {
         found_in::<T, Brand>(&self.inner, note)
+    }
+
+    /// What the cell has, for whoever has a note that knows it: one load, and no test of what it gives.
+    pub(crate) fn known(&self, note: NoteOf<T>) -> &T
+        requires { (note.cell ≡ cell_name self.now.1) × IsSome note.known }
+        ensures { note.known ≡ Some result.now }
+    {
+        known_in::<T, Brand>(&self.inner, note)
     }
 }
 

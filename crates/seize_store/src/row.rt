@@ -175,8 +175,9 @@ impl<H: Labelled + Drop, P: Labelled + Drop, T> Row<H, P, T> {
         requires { (entry < length self.now) × IsLent ticket pool × (ticket.name ≡ content_in self.now entry) }
         ensures { (hull_with result ≡ chunk_in self.now entry) × (T.row.coded.code result.value ≡ pool.value) }
     {
-        let kept = &self.chunks[entry];
-        kept.lender.back(&kept.chunk, ticket, pool)
+        self.chunks[entry]
+            .lender
+            .back(&self.base, entry, ticket, pool)
     }
 
     /// The value of the block that is lent from the chunk at that entry.

@@ -92,10 +92,7 @@ impl<H: Labelled + Drop, P: Labelled + Drop, T> Store<H, P, T> {
         let cell = &self.rows.cells[bucket];
         let mut note = cell.note();
         known.tell(&mut note);
-        let (Some(row), _) = cell.found(note) else {
-            unreachable!();
-        };
-        row
+        cell.known(note)
     }
 
     // The row that the token shows.
@@ -103,9 +100,6 @@ impl<H: Labelled + Drop, P: Labelled + Drop, T> Store<H, P, T> {
         requires { (store_by seen.old ≡ store_name self.now) × (row_by seen.old ≡ bucket) × (bucket < 53) }
         ensures { (seen.new ≡ seen.old) × (result.now ≡ chunks_by seen.old) }
     {
-        let (Some(row), _) = self.rows.cells[bucket].found(seen.note.again()) else {
-            unreachable!();
-        };
-        row
+        self.rows.cells[bucket].known(seen.note.again())
     }
 }
