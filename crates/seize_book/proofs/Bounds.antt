@@ -9,7 +9,7 @@ use mathlib.Core.List.{IsPrefix}
 use seplogic.Ra.Ura.{Ura}
 use base.Fml.{Fml, Share, ftrue}
 use base.Fraction.{full_share}
-use base.Growing.{at_least, latest, numbers}
+use base.Growing.{numbers}
 use base.Logic.{SProp, ent, sep, guard, upd, upd_i}
 use base.Share.{quarter, quarters, three_quarters}
 use types.Growing.{at_least_dup, latest_agrees, latest_bounds, latest_cut, latest_glue, latest_grows, latest_shows}
@@ -17,8 +17,7 @@ use types.Logic.{Logic, sem}
 use types.Kit.{‵, raw, ◌⊛◌, given, ◌$◌, ◌∵◌, !, qed, move, keep, drop, split, fsplit, fjoin, fpick, fpack, learn, check, suffices, settle, done, rewrite, use1, use2}
 use denote.Steps.{nothing}
 use Rattle.seize_machine.specs.Machine.State.{State}
-use Rattle.seize_machine.specs.Machine.Event.{Event}
-use Rattle.seize_machine.specs.Machine.History.{Moment, done_by}
+use Rattle.seize_machine.specs.Machine.History.{done_by}
 use Rattle.seize_machine.specs.Machine.Laws.{FillsWithin, fills}
 use Rattle.seize_machine.specs.Machine.Next.{next}
 use Rattle.seize_book.specs.Book.{moments}

@@ -64,3 +64,7 @@ pub mod Lending
 pub mod LentValues
 pub mod Facts
 pub mod Noted
+pub mod Calls
+pub mod Idles
+pub mod Lent
+pub mod CallKit

@@ -3,15 +3,15 @@
 --     raises         the greatest size is raised
 --     has_knows      what a porter knows of its book can be had beside it
 --     parts          a part of the right to raise it has two halves
-use Rattle.std.proofs.Common.{◌≡◌, ℕ, max, Bool, true, false, List, [], ◌∷◌}
+use Rattle.std.proofs.Common.{ℕ, max, Bool, true, false, List, [], ◌∷◌}
 use seplogic.Ra.Ura.{Ura}
-use base.Fml.{Share, Fml, finv, ftrue}
+use base.Fml.{Fml, finv, ftrue}
 use base.Growing.{numbers}
-use base.Logic.{SProp, ent, sep, ex, guard, upd, upd_i}
+use base.Logic.{SProp, ent, sep, guard, upd, upd_i}
 use base.Share
 use ghost.Rules.{Halves}
 use types.Growing.{at_least_dup, latest_cut, latest_glue}
-use types.Kit.{‵, raw, ◌⊛◌, some, given, ◌$◌, ◌∵◌, !, qed, move, keep, join, split, split3, fsplit, fsplit3, fjoin, fjoin3, fpick, fpack, pick, learn, show, check, frame, assume, suffices, settle, done, use1, use2, use3}
+use types.Kit.{‵, raw, ◌⊛◌, some, given, ◌$◌, ◌∵◌, !, qed, move, keep, join, split, split3, fsplit, fsplit3, fjoin, fjoin3, fpick, fpack, pick, learn, check, frame, assume, suffices, settle, done, use1, use2, use3}
 use types.Logic.{Logic, sem}
 use denote.Steps.{nothing}
 use Rattle.seize_machine.specs.Machine.State.{State}

@@ -1,11 +1,10 @@
 -- `end` ends a lifetime, of which all units are there, and makes another one.
-use Rattle.seize_book.proofs.Kit.{◌≡◌, ℕ, List, [], ◌∷◌, refl, proved, named, Val, vptr, SProp, emp, Fml, ftrue, fsep, flft, ‵, raw, ◌⊛◌, some, later, await, ◌$◌, ◌∵◌, !, qed, by, move, keep, split, fsplit, fsplit3, fjoin, fjoin3, pick, use0, use1, rewrite, feq_i, no_more, and_then, returns, enter, alloc_all, pass_all, free_all, look_at, get, sets, agg, fact, fact_i, tables, owns, types_at, plain, mut_vals, mut_Tells, nothing, heard, opens, closes, Stays, stay_ref, walk_of, Goes-ref}
+use Rattle.seize_book.proofs.CallKit.{ℕ, ◌≡◌, [], ◌∷◌, refl, ‵, ◌⊛◌, some, later, await, heard, ◌$◌, !, move, split, pick, rewrite, use1, calls, told, token1, Only, held}
 use Rattle.seize_book.specs.Tokens.{over}
 use Rattle.seize_words.specs.contracts.activation.Ended as Ended
 use Rattle.seize_words.specs.contracts.activation.Activation as Activation
 use Rattle.seize_words.specs.Units.{all_units, has_units}
 use Rattle.seize_words.proofs.Activations.{renews}
-use Rattle.seize_book.proofs.Fields.{Token, token, token_made, ends}
 use Rattle.seize_words.specs.contracts.activation.Activation.end.{ended, clauses}
 use Rattle.seize_words.specs.contracts.activation.Activation.end.Key.{name as #self}
 use Rattle.seize_words.proofs.activation.Activation.end.Statement.{statement}
@@ -13,30 +12,7 @@ use Rattle.seize_words.proofs.activation.Activation.end.Code as code
 
 pub end_spec : {M : Type 1} → statement M
 end_spec 𝓤 𝓛 𝓜 𝓡 wired =
-    let H = 𝓛.H in let 𝓣 = tables 𝓤 H 𝓜 𝓡 𝓡.env in let fn = code.function in let c = clauses 𝓛 𝓜.mem 𝓡.returns in
-    let hs : Stays ended.signature.params ended.kept = (stay_ref (0 ∷ []) tt (plain (λ _. Activation.the_row)), tt) in
-    proved 𝓛 ended hs c 𝓜 𝓡 (Goes-ref 𝓛 1 0 tt (plain (λ _. Activation.the_row)), tt) #self fn (code.unfolded 𝓤 H 𝓜 𝓡 wired)
-    (λ κs. (mut_vals, tt)) (λ κs. (mut_Tells (named 0) κs.0 Activation.the_row, tt)) (λ κs qs bounds a gh are.
-    let b = a.0.now in let Asked : Type 0 = b.units ≡ all_units in let pb : ℕ = a.0.ref_ptr.0 in let po : ℕ = a.0.ref_ptr.1 in
-    let y : (walk_of 𝓛 ended hs c).Ghost = ((κs, qs, bounds, a, (vptr pb po ∷ [], tt)), gh) in let Post : Val → SProp 𝓤 = (walk_of 𝓛 ended hs c).post y in let toks : Fml = fsep (flft κs.0 qs.0) ftrue in
-    qed 𝓛 ((‵ toks ⊛ ‵ (owns (types_at ended.signature.params κs) a y.0.4)) ∷ raw (fact 𝓤 Asked) ∷ []) ∵ move ! (1 ∷ 0 ∷ []) $ heard ! Asked (λ asked. split ! $
-    fsplit ! $ move ! (2 ∷ []) $ fsplit ! $ fsplit3 ! $
-    -- [the activation, in three entries; nothing; its token; nothing]
-    keep ! (1 ∷ 2 ∷ 4 ∷ []) $
-    enter ! 𝓣.C 𝓣.Λ fn (vptr pb po ∷ []) Post $ alloc_all ! (λ l. pass_all ! refl ((tt, tt), tt) $
-    opens ! tt Activation.the_row pb po (λ vs. move ! (1 ∷ []) $ fsplit ! $ move ! (1 ∷ []) $
-    -- [its units; the activation; its cell, in four entries]
-    rewrite ! 0 (λ (k : ℕ). ‵ (has_units b.life k)) asked refl $
+    calls 𝓛 ended (held 𝓛 0 tt (λ κs. Activation.the_row) (λ κs. Activation.the_heap) (λ κs x vs. refl), tt) (clauses 𝓛 𝓜.mem 𝓡.returns) _ (λ κs. Only 𝓛 Ended.the_row Ended.the_heap (λ r. refl)) 𝓜 𝓡 #self _ (code.unfolded 𝓤 𝓛.H 𝓜 𝓡 wired) (λ κs qs. refl) (λ κs a are. token1 𝓛 (tt, (tt, tt)) (tt, tt) (tt, tt)) (λ κs qs a are gh is end.
+    let b = a.0.now in move ! (1 ∷ []) $ heard ! (b.units ≡ all_units) (λ asked. rewrite ! 0 (λ (k : ℕ). ‵ (has_units b.life k)) asked refl $
     use1 𝓛 (later (some (λ (life : ℕ). ‵ (has_units life all_units) ⊛ ‵ (over (b.life ∷ []))))) (renews 𝓛 b.life) $ await ! tt $ pick ! (λ life. split ! $
-    -- [that the other is over; its units; the activation; its cell, in four entries]
-    let r : Ended.the_row.Denot = record { marker = record {}; lives = b.life ∷ []; next = life } in let b' : Activation.the_row.Denot = record b { life = life; units = all_units } in
-    move ! (2 ∷ 0 ∷ []) $ fjoin ! $ move ! (2 ∷ 0 ∷ 3 ∷ 4 ∷ 5 ∷ []) $ closes ! tt Activation.the_row b' vs pb po $
-    -- [the activation, in two; its token; that the other is over]
-    sets ! (agg ! (no_more !)) refl (tt, tt) $ sets ! (agg ! (and_then ! (get ! refl) (no_more !))) refl (tt, (tt, tt)) $
-    move ! (3 ∷ []) $ use0 𝓛 (‵ (Token.own_val (record {}, tt) (token ∷ []))) (token_made 𝓛) $ fjoin ! $
-    -- [the result; the activation, in two; its token]
-    nothing ! $ move ! (4 ∷ 0 ∷ []) $ fjoin ! $
-    -- [the tokens; the result; the activation, in two]
-    nothing ! $ feq_i ! (List Val) (vptr pb po ∷ []) (vptr pb po ∷ []) refl $ move ! (0 ∷ 4 ∷ 5 ∷ []) $ fjoin3 ! $ fjoin ! $
-    returns ! (look_at ! 0 refl) $ free_all ! refl $ keep ! (1 ∷ 0 ∷ 2 ∷ []) $
-    by ! (ends 𝓛 ended hs c y token r (b', tt) (tt, tt) (fact_i 𝓤 _ (emp 𝓤) (refl, refl, refl, refl, refl))))))))
+    end (record { marker = record {}; lives = b.life ∷ []; next = life }) (record b { life = life; units = all_units }, tt) (told 𝓤 (refl, refl, refl, refl, refl)))))

@@ -1,11 +1,5 @@
 -- `again`: what shows it shows it twice.
-use Rattle.seize_book.proofs.Kit.{ℕ, [], ◌∷◌, refl, proved, named, Val, vptr, SProp, emp, Lft, Fml, ftrue, fsep, flft, ‵, raw, ◌⊛◌, ◌$◌, ◌∵◌, !, qed, by, move, keep, drop, split, fsplit, fjoin, use0, no_more, and_then, returns, enter, alloc_all, pass_all, free_all, look_at, get, sets, agg, fact_i, tables, RattleType, RefOf, yes, unhide, owns, types_at, plain, shr_vals, shr_Tells, nothing, Stays, stay_dropped, walk_of, Goes-dropped}
-use contract.Lifetimes.{Lfts}
-use denote.Builtin.{unit}
-use denote.Ref.{ShrRef}
-use denote.Signature.{named_lft}
-use Rattle.seize_content.proofs.Fields.{token, Marked, marked_made}
-use Rattle.seize_book.proofs.Fields.{ends}
+use Rattle.seize_book.proofs.CallKit.{[], ◌∷◌, refl, ◌$◌, !, keep, calls, told, token1, Of, shown, beside, unit, ShrRef, marked_made, named, named_lft}
 use Rattle.seize_words.specs.contracts.lasting.Lasting as Lasting
 use Rattle.seize_words.specs.contracts.lasting.Lasting.again.{ended, clauses}
 use Rattle.seize_words.specs.contracts.lasting.Lasting.again.Key.{name as #self}
@@ -14,18 +8,5 @@ use Rattle.seize_words.proofs.lasting.Lasting.again.Code as code
 
 pub again_spec : {M : Type 1} → statement M
 again_spec 𝓤 𝓛 𝓜 𝓡 wired =
-    let H = 𝓛.H in let 𝓣 = tables 𝓤 H 𝓜 𝓡 𝓡.env in let fn = code.function in let c = clauses 𝓛 𝓜.mem 𝓡.returns in
-    let self = RefOf (0 ∷ []) tt (plain (λ (κs : Lfts 2). Lasting.the_row (named_lft 2 1 tt κs))) (λ _. tt) in let hs : Stays ended.signature.params ended.kept = (stay_dropped self yes, tt) in
-    proved 𝓛 ended hs c 𝓜 𝓡 (Goes-dropped 𝓛 2 self yes (λ κs x f. refl), tt) #self fn (code.unfolded 𝓤 H 𝓜 𝓡 wired)
-    (λ κs. (shr_vals, tt)) (λ κs. (shr_Tells (named 0) κs.0 (Lasting.the_row (named_lft 2 1 tt κs)), tt)) (λ κs qs bounds a gh are.
-    let κ : Lft = κs.1.0 in let l = a.0.now in let pb : ℕ = a.0.ref_ptr.0 in let po : ℕ = a.0.ref_ptr.1 in let L : RattleType = Lasting.the_row (named_lft 2 1 tt κs) in let mark : RattleType = ShrRef (named 1) κ unit in
-    let y : (walk_of 𝓛 ended hs c).Ghost = ((κs, qs, bounds, a, (vptr pb po ∷ [], tt)), gh) in let Post : Val → SProp 𝓤 = (walk_of 𝓛 ended hs c).post y in let toks : Fml = fsep (flft κs.0 qs.0) (fsep (flft κ qs.1.0) ftrue) in
-    qed 𝓛 ((‵ toks ⊛ ‵ (owns (types_at ended.signature.params κs) a y.0.4)) ∷ raw ((c κs a).requires gh) ∷ []) ∵ split ! $ move ! (1 ∷ []) $ fsplit ! $ fsplit ! $ drop ! $ unhide ! $ fsplit ! $ drop ! $
-    -- [what it shows; nothing; the tokens]
-    keep ! (0 ∷ 2 ∷ []) $
-    enter ! 𝓣.C 𝓣.Λ fn (vptr pb po ∷ []) Post $ alloc_all ! (λ h. pass_all ! refl ((tt, tt), tt) $
-    sets ! (agg ! (no_more !)) refl (tt, tt) $ sets ! (agg ! (and_then ! (get ! refl) (no_more !))) refl (tt, (tt, tt)) $
-    use0 𝓛 (‵ ((Marked mark).own_val (record {}, tt) (token ∷ []))) (marked_made mark 𝓛) $ fjoin ! $ let r : L.Denot = record { marker = record {}; name = l.name; life = l.life; seen = l.seen } in
-    -- [the result; the tokens]
-    nothing ! $ nothing ! $ fjoin ! $ returns ! (look_at ! 0 refl) $ free_all ! refl $ keep ! (2 ∷ 0 ∷ 1 ∷ []) $
-    by ! (ends 𝓛 ended hs c y token r (tt, tt) (tt, tt) (fact_i 𝓤 _ (emp 𝓤) refl))))
+    calls 𝓛 ended (beside 𝓛 1 tt (shown 𝓛 0 tt (λ κs. Lasting.the_row (named_lft 2 1 tt κs)) (λ κs. Lasting.the_lent κs.1.0) (λ κs x. refl)), tt) (clauses 𝓛 𝓜.mem 𝓡.returns) _ (λ κs. Of 𝓛 (Lasting.the_row (named_lft 2 1 tt κs)) (marked_made (ShrRef (named 1) κs.1.0 unit) 𝓛) (Lasting.the_heap κs.1.0) (λ r. refl)) 𝓜 𝓡 #self _ (code.unfolded 𝓤 𝓛.H 𝓜 𝓡 wired) (λ κs qs. refl) (λ κs a are. token1 𝓛 (tt, (tt, tt)) (tt, tt) (tt, tt)) (λ κs qs a are gh is end.
+    let l = a.0.now in keep ! (1 ∷ 0 ∷ []) $ end (record { marker = record {}; name = l.name; life = l.life; seen = l.seen }) (tt, tt) (told 𝓤 refl))

@@ -1,10 +1,8 @@
--- `bare` lets the ways go.
-use Rattle.seize_book.proofs.Kit.{ℕ, List, [], ◌∷◌, refl, proved, named, Val, vptr, SProp, emp, Fml, ftrue, fsep, flft, ‵, raw, ◌⊛◌, ◌$◌, ◌∵◌, !, qed, by, move, keep, split, fsplit, fsplit3, fjoin, fjoin3, use0, use1, feq_i, no_more, and_then, returns, enter, alloc_all, pass_all, free_all, look_at, get, sets, agg, fact_i, tables, owns, types_at, plain, mut_vals, mut_Tells, nothing, opens, closes, Stays, stay_ref, walk_of, Goes-ref}
+-- `bare` gives the rights alone.
+use Rattle.seize_book.proofs.CallKit.{[], ◌∷◌, refl, ‵, ◌⊛◌, ◌$◌, !, keep, split, fjoin, use1, nothing, calls, told, token1, Only, keys}
 use Rattle.seize_book.specs.Tokens.{notes_own, rights_own}
-use Rattle.seize_book.proofs.Ways.{keys_bared}
-use Rattle.seize_book.specs.contracts.book.keys.Keys as Keys
 use Rattle.seize_book.specs.contracts.book.rights.Rights as Rights
-use Rattle.seize_book.proofs.Fields.{Token, token, token_made, ends}
+use Rattle.seize_book.proofs.Ways.{keys_bared}
 use Rattle.seize_book.specs.contracts.book.keys.Keys.bare.{ended, clauses}
 use Rattle.seize_book.specs.contracts.book.keys.Keys.bare.Key.{name as #self}
 use Rattle.seize_book.proofs.book.keys.Keys.bare.Statement.{statement}
@@ -12,28 +10,6 @@ use Rattle.seize_book.proofs.book.keys.Keys.bare.Code as code
 
 pub bare_spec : {M : Type 1} → statement M
 bare_spec 𝓤 𝓛 𝓜 𝓡 wired =
-    let H = 𝓛.H in let 𝓣 = tables 𝓤 H 𝓜 𝓡 𝓡.env in let fn = code.function in let c = clauses 𝓛 𝓜.mem 𝓡.returns in
-    let hs : Stays ended.signature.params ended.kept = (stay_ref (0 ∷ []) tt (plain (λ _. Keys.the_row)), tt) in
-    proved 𝓛 ended hs c 𝓜 𝓡 (Goes-ref 𝓛 1 0 tt (plain (λ _. Keys.the_row)), tt) #self fn (code.unfolded 𝓤 H 𝓜 𝓡 wired)
-    (λ κs. (mut_vals, tt)) (λ κs. (mut_Tells (named 0) κs.0 Keys.the_row, tt)) (λ κs qs bounds a gh are.
-    let b = a.0.now in let pb : ℕ = a.0.ref_ptr.0 in let po : ℕ = a.0.ref_ptr.1 in
-    let y : (walk_of 𝓛 ended hs c).Ghost = ((κs, qs, bounds, a, (vptr pb po ∷ [], tt)), gh) in let Post : Val → SProp 𝓤 = (walk_of 𝓛 ended hs c).post y in let toks : Fml = fsep (flft κs.0 qs.0) ftrue in
-    qed 𝓛 ((‵ toks ⊛ ‵ (owns (types_at ended.signature.params κs) a y.0.4)) ∷ raw ((c κs a).requires gh) ∷ []) ∵ split ! $
-    fsplit ! $ move ! (2 ∷ []) $ fsplit ! $ fsplit3 ! $
-    -- [it, in three entries; nothing; its token; nothing; what was asked]
-    keep ! (1 ∷ 2 ∷ 4 ∷ []) $
-    enter ! 𝓣.C 𝓣.Λ fn (vptr pb po ∷ []) Post $ alloc_all ! (λ l. pass_all ! refl ((tt, tt), tt) $
-    opens ! tt Keys.the_row pb po (λ vs. move ! (1 ∷ []) $ fsplit ! $ move ! (1 ∷ []) $
-    -- [what it owns; it; its cell, in four entries]
-    use1 𝓛 (‵ (rights_own b.name b.held) ⊛ ‵ (notes_own b.held)) (keys_bared 𝓛 b.name b.held) $ split ! $ fjoin ! $
-    let r : Rights.the_row.Denot = record { marker = record {}; name = b.name; held = b.held } in let b' : Keys.the_row.Denot = record b { held = [] } in
-    nothing ! $ move ! (2 ∷ 0 ∷ []) $ fjoin ! $ move ! (2 ∷ 0 ∷ 3 ∷ 4 ∷ 5 ∷ []) $ closes ! tt Keys.the_row b' vs pb po $
-    -- [it, in two; its token; what the result owns]
-    sets ! (agg ! (no_more !)) refl (tt, tt) $ sets ! (agg ! (and_then ! (get ! refl) (no_more !))) refl (tt, (tt, tt)) $
-    move ! (3 ∷ []) $ use0 𝓛 (‵ (Token.own_val (record {}, tt) (token ∷ []))) (token_made 𝓛) $ fjoin ! $
-    -- [the result; it, in two; its token]
-    nothing ! $ move ! (4 ∷ 0 ∷ []) $ fjoin ! $
-    -- [the tokens; the result; it, in two]
-    nothing ! $ feq_i ! (List Val) (vptr pb po ∷ []) (vptr pb po ∷ []) refl $ move ! (0 ∷ 4 ∷ 5 ∷ []) $ fjoin3 ! $ fjoin ! $
-    returns ! (look_at ! 0 refl) $ free_all ! refl $ keep ! (1 ∷ 0 ∷ 2 ∷ []) $
-    by ! (ends 𝓛 ended hs c y token r (b', tt) (tt, tt) (fact_i 𝓤 _ (emp 𝓤) (refl, refl))))))
+    calls 𝓛 ended (keys 𝓛 0 tt, tt) (clauses 𝓛 𝓜.mem 𝓡.returns) _ (λ κs. Only 𝓛 Rights.the_row Rights.the_heap (λ r. refl)) 𝓜 𝓡 #self _ (code.unfolded 𝓤 𝓛.H 𝓜 𝓡 wired) (λ κs qs. refl) (λ κs a are. token1 𝓛 (tt, (tt, tt)) (tt, tt) (tt, tt)) (λ κs qs a are gh is end.
+    let b = a.0.now in use1 𝓛 (‵ (rights_own b.name b.held) ⊛ ‵ (notes_own b.held)) (keys_bared 𝓛 b.name b.held) $ split ! $ fjoin ! $ nothing ! $ keep ! (0 ∷ 1 ∷ []) $
+    end (record { marker = record {}; name = b.name; held = b.held }) (record b { held = [] }, tt) (told 𝓤 (refl, refl)))

@@ -1,23 +1,11 @@
 -- `sight` tells what is lent with the value, for as long as the keys are borrowed.
-use Rattle.seize_book.proofs.Kit.{ℕ, [], ◌∷◌, refl, proved, Val, vptr, SProp, emp, Lft, ftrue, fsep, flft, ‵, raw, ◌⊛◌, some, given, ◌$◌, ◌∵◌, !, qed, by, move, keep, drop, split, fsplit, fjoin, pick, learn, use0, use1, no_more, and_then, returns, enter, alloc_all, pass_all, free_all, look_at, get, sets, agg, fact, fact_i, heard, tables, yes, RattleType, owns, types_at, plain, RefOf, shr_vals, shr_Tells, unhide, nothing, Stays, stay_dropped, walk_of, Goes-dropped, named}
-use base.Fml.{fhide}
-use base.Stored.{Gv}
-use denote.Builtin.{unit}
-use denote.Memory.{hidden_shr}
-use denote.Ref.{ShrRef}
-use denote.Signature.{named_lft}
-use denote.Struct.Lending.{lent_out}
-use Rattle.core.specs.contracts.marker.PhantomData as marker
+use Rattle.seize_book.proofs.CallKit.{ℕ, [], ◌∷◌, refl, ‵, ◌⊛◌, some, given, heard, ◌$◌, !, move, drop, split, pick, learn, use1, calls, told, token1, Of, shown, Gv, unit, ShrRef, named_lft, Carries, loan_of, label_of, Lft, named, marked_made}
 use Rattle.seize_content.specs.Contents.{sight_owns}
 use Rattle.seize_content.specs.contracts.loan.Sight as Sight
-use Rattle.seize_content.proofs.Fields.{token, Marked, marked_made}
-use Rattle.seize_book.specs.Loans.{Carries, loan_of}
 use Rattle.seize_book.specs.Peeking.{MaySee}
-use Rattle.seize_book.specs.Peeks.{keys_show, sight_if}
-use Rattle.seize_book.specs.Private.{label_of}
+use Rattle.seize_book.specs.Peeks.{sight_if}
 use Rattle.seize_book.specs.Tokens.{leads}
 use Rattle.seize_book.specs.contracts.book.keys.Keys as Keys
-use Rattle.seize_book.proofs.Fields.{ends}
 use Rattle.seize_book.proofs.Peeks.{shows, sights}
 use Rattle.seize_book.specs.contracts.book.keys.Keys.sight.{ended, clauses}
 use Rattle.seize_book.specs.contracts.book.keys.Keys.sight.Key.{name as #self}
@@ -26,22 +14,8 @@ use Rattle.seize_book.proofs.book.keys.Keys.sight.Code as code
 
 pub sight_spec : {M : Type 1} → statement M
 sight_spec 𝓤 𝓛 𝓜 𝓡 wired =
-    let H = 𝓛.H in let 𝓣 = tables 𝓤 H 𝓜 𝓡 𝓡.env in let fn = code.function in let Row : RattleType = Keys.the_row in let c = clauses 𝓛 𝓜.mem 𝓡.returns in
-    let self = RefOf (0 ∷ []) tt (plain (λ _. Row)) (λ _. tt) in let hs : Stays ended.signature.params ended.kept = (stay_dropped self yes, tt) in
-    proved 𝓛 ended hs c 𝓜 𝓡 (Goes-dropped 𝓛 1 self yes (λ κs x f. refl), tt) #self fn (code.unfolded 𝓤 H 𝓜 𝓡 wired) (λ κs. (shr_vals, tt)) (λ κs. (shr_Tells (named 0) κs.0 Row, tt)) (λ κs qs bounds a gh are.
-    let rb : ℕ = a.0.ref_ptr.0 in let ro : ℕ = a.0.ref_ptr.1 in let κ : Lft = κs.0 in let d : Row.Denot = a.0.now in let v : ℕ = label_of d.held in let S : RattleType = Sight.the_row (named_lft 1 0 tt κs) in let mark : RattleType = ShrRef (named 0) κ unit in
-    let y : (walk_of 𝓛 ended hs c).Ghost = ((κs, qs, bounds, a, (vptr rb ro ∷ [], tt)), gh) in let Post : Val → SProp 𝓤 = (walk_of 𝓛 ended hs c).post y in let Asked : Type 0 = MaySee d in
-    qed 𝓛 ((‵ (fsep (flft κ qs.0) ftrue) ⊛ ‵ (owns (types_at ended.signature.params κs) a y.0.4)) ∷ raw (fact 𝓤 Asked) ∷ []) ∵ move ! (1 ∷ []) $ heard ! Asked (λ asked. split ! $ move ! (1 ∷ []) $ fsplit ! $ fsplit ! $
-    -- [the reference; the keys; nothing; the token]
-    keep ! (1 ∷ 3 ∷ []) $
-    enter ! 𝓣.C 𝓣.Λ fn (vptr rb ro ∷ []) Post $ alloc_all ! (λ l. pass_all ! refl ((tt, tt), tt) $
-    use1 𝓛 (‵ (hidden_shr (Marked unit) κ (record {}, tt) rb ro) ⊛ ‵ (fhide (keys_show d.name d.held κ))) (lent_out 𝓛 Keys.struct (Keys.the_codes (marker.the_row unit).coded) Keys.the_heap Keys.the_lent κ d rb ro) $ split ! $ move ! (1 ∷ []) $ unhide ! $
+    calls 𝓛 ended (shown 𝓛 0 tt (λ κs. Keys.the_row) (λ κs. Keys.the_lent) (λ κs x. refl), tt) (clauses 𝓛 𝓜.mem 𝓡.returns) _ (λ κs. let mark = ShrRef (named 0) κs.0 unit in Of 𝓛 (Sight.the_row (named_lft 1 0 tt κs)) (marked_made mark 𝓛) (Sight.the_heap κs.0) (λ r. refl)) 𝓜 𝓡 #self _ (code.unfolded 𝓤 𝓛.H 𝓜 𝓡 wired) (λ κs qs. refl) (λ κs a are. token1 𝓛 (tt, (tt, tt)) (tt, tt) (tt, tt)) (λ κs qs a are gh is end.
+    let κ : Lft = κs.0 in let d = a.0.now in let v : ℕ = label_of d.held in move ! (2 ∷ []) $ heard ! (MaySee d) (λ asked.
     use1 𝓛 (‵ (leads d.name v) ⊛ ‵ (sight_if (loan_of v) κ v)) (shows 𝓛 d.name κ d.held asked.0) $ split ! $ drop ! $
-    -- [what is lent; its marker; the token]
-    use1 𝓛 (some (λ (t : ℕ × (ℕ × Gv)). given (Carries v t.0 t.1.1) (‵ (sight_owns κ t.0 t.1.0 t.1.1)))) (sights 𝓛 κ v asked.1) $ pick ! (λ t. learn ! (λ its.
-    sets ! (agg ! (no_more !)) refl (tt, tt) $ sets ! (agg ! (and_then ! (get ! refl) (no_more !))) refl (tt, (tt, tt)) $
-    use0 𝓛 (‵ ((Marked mark).own_val (record {}, tt) (token ∷ []))) (marked_made mark 𝓛) $ fjoin ! $ let r : S.Denot = record { marker = record {}; name = t.0; life = t.1.0; value = t.1.1 } in
-    -- [the result; its marker; the token]
-    nothing ! $ nothing ! $ fjoin ! $
-    returns ! (look_at ! 0 refl) $ free_all ! refl $ keep ! (3 ∷ 0 ∷ 1 ∷ []) $
-    by ! (ends 𝓛 ended hs c y token r (tt, tt) (tt, tt) (fact_i 𝓤 _ (emp 𝓤) its)))))))
+    use1 𝓛 (some (λ (t : ℕ × (ℕ × Gv)). given (Carries v t.0 t.1.1) (‵ (sight_owns κ t.0 t.1.0 t.1.1)))) (sights 𝓛 κ v asked.1) $ pick ! (λ t. learn ! (λ its. move ! (1 ∷ 0 ∷ []) $
+    end (record { marker = record {}; name = t.0; life = t.1.0; value = t.1.1 }) (tt, tt) (told 𝓤 its)))))

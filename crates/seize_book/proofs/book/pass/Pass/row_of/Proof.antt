@@ -1,16 +1,10 @@
 -- `row_of` gives what the book keeps of where the number leads.
-use Rattle.seize_book.proofs.Kit.{join, Lfts, NamedLft, named_lft, ℕ, List, [], ◌∷◌, refl, subst, proved, named, w64, u64, vint, uint_vals, uint_Tells, Val, vptr, SProp, emp, Fml, ftrue, fsep, flft, ‵, raw, ◌⊛◌, some, given, later, await, ◌$◌, ◌∵◌, !, qed, by, move, keep, drop, split, fsplit, fsplit3, fjoin, fjoin3, fpick, pick, learn, use0, use1, feq_i, no_more, and_then, get, agg, returns, enter, alloc_all, pass_all, free_all, look_at, sets, fact, fact_i, heard, tables, yes, owns, types_at, plain, mut_vals, mut_Tells, nothing, Stays, stay_ref, stay_dropped, walk_of, Goes-ref, Goes-dropped}
+use Rattle.seize_book.proofs.CallKit.{ℕ, List, [], ◌∷◌, refl, subst, ‵, ◌⊛◌, some, given, later, await, heard, ◌$◌, !, move, drop, split, fsplit, fpick, pick, learn, use1, calls, told, token2, Only, pass, number, Entry, Before, pass_owns, looked, IsDistinct}
 use Rattle.seize_store.specs.Named.{IsRowOf}
 use Rattle.seize_store.specs.contracts.row_token.RowToken as RowToken
-use Rattle.seize_book.proofs.Borrowed.{opens_pass, closes_pass, two_out, two_in}
-use Rattle.seize_book.specs.Entry.{Entry}
-use Rattle.seize_book.specs.Fair.{Before}
 use Rattle.seize_book.specs.Homesteads.{HasNumber, state_seen}
-use Rattle.seize_book.specs.Tokens.{pass_owns, leads}
-use Rattle.seize_book.specs.contracts.book.pass.Pass as Pass
-use Rattle.seize_book.proofs.Fields.{Token, token, token_made, ends}
-use Rattle.seize_book.proofs.Looks.{finds_row, looked}
-use Rattle.seize_book.proofs.Passes.{IsDistinct}
+use Rattle.seize_book.specs.Tokens.{leads}
+use Rattle.seize_book.proofs.Looks.{finds_row}
 use Rattle.seize_book.specs.contracts.book.pass.Pass.row_of.{ended, clauses}
 use Rattle.seize_book.specs.contracts.book.pass.Pass.row_of.Key.{name as #self}
 use Rattle.seize_book.proofs.book.pass.Pass.row_of.Statement.{statement}
@@ -18,31 +12,8 @@ use Rattle.seize_book.proofs.book.pass.Pass.row_of.Code as code
 
 pub row_of_spec : {M : Type 1} → statement M
 row_of_spec 𝓤 𝓛 𝓜 𝓡 wired =
-    let H = 𝓛.H in let 𝓣 = tables 𝓤 H 𝓜 𝓡 𝓡.env in let fn = code.function in let c = clauses 𝓛 𝓜.mem 𝓡.returns in
-    let Pa = plain (λ (κs : Lfts 2). Pass.the_row (named_lft 2 1 tt κs)) in let hs : Stays ended.signature.params ended.kept = (stay_ref (0 ∷ []) tt (Pa), (stay_dropped (plain (λ _. u64)) yes, tt)) in
-    proved 𝓛 ended hs c 𝓜 𝓡 (Goes-ref 𝓛 2 0 tt (Pa), (Goes-dropped 𝓛 2 (plain (λ _. u64)) yes (λ κs x f. refl), tt)) #self fn (code.unfolded 𝓤 H 𝓜 𝓡 wired)
-    (λ κs. (mut_vals, (uint_vals w64, tt))) (λ κs. (mut_Tells (named 0) κs.0 (Pass.the_row (named_lft 2 1 tt κs)), (uint_Tells w64, tt))) (λ κs qs bounds a gh are.
-    let b = a.0.now in let number : ℕ = a.1.0 in let pb : ℕ = a.0.ref_ptr.0 in let po : ℕ = a.0.ref_ptr.1 in
-    let ℓ : NamedLft = named_lft 2 1 tt κs in let y : (walk_of 𝓛 ended hs c).Ghost = ((κs, qs, bounds, a, (vptr pb po ∷ [], (vint w64 number ∷ [], tt))), gh) in let Post : Val → SProp 𝓤 = (walk_of 𝓛 ended hs c).post y in let toks : Fml = fsep (flft κs.0 qs.0) (fsep (flft κs.1.0 qs.1.0) ftrue) in
-    let Asked : Type 0 = HasNumber number (state_seen b) in
-    qed 𝓛 ((‵ toks ⊛ ‵ (owns (types_at ended.signature.params κs) a y.0.4)) ∷ raw (fact 𝓤 Asked) ∷ []) ∵ move ! (1 ∷ []) $ heard ! Asked (λ asked. split ! $
-    fsplit ! $ two_out ! $ move ! (2 ∷ []) $ fsplit ! $ fsplit3 ! $
-    -- [the pass, in three entries; nothing; its token; nothing]
-    keep ! (1 ∷ 2 ∷ 4 ∷ []) $
-    enter ! 𝓣.C 𝓣.Λ fn (vptr pb po ∷ vint w64 number ∷ []) Post $ alloc_all ! (λ l. pass_all ! refl ((tt, tt), ((tt, record { fits = are.1.0.1 }), tt)) $
-    opens_pass ! tt ℓ b pb po (λ vs.
-    -- [what the pass owns; the pass; its cell, in four entries]
-    let v : ℕ = asked.0 in let L : Fml = leads b.name v in
-    use1 𝓛 (later (some (λ (log : List Entry). given (Before b.name b.id b.seen [] log × IsDistinct 𝓛 b.name) (‵ (pass_owns b.name b.id log) ⊛ ‵ L)))) (finds_row 𝓛 b.name b.id b.seen v asked.1) $ await ! tt $ pick ! (λ log. learn ! (λ so. split ! $
-    -- [what the pass owns; where the number leads; the pass; its cell, in four entries]
-    move ! (1 ∷ []) $ fsplit ! $ move ! (1 ∷ []) $ drop ! $ fpick ! (λ way. let b' : (Pass.the_row ℓ).Denot = record b { seen = log } in let r : RowToken.the_row.Denot = record { marker = record {}; store = b.name.store; row = way.row; chunks = way.chunks; made = way.made } in
-    move ! (2 ∷ 1 ∷ []) $ join ! $ move ! (2 ∷ 0 ∷ 3 ∷ 4 ∷ 5 ∷ []) $ closes_pass ! tt ℓ b' refl vs pb po $
-    -- [the pass, in two; its token; what is known of the row]
-    sets ! (agg ! (no_more !)) refl (tt, tt) $ sets ! (agg ! (and_then ! (get ! refl) (no_more !))) refl (tt, (tt, tt)) $
-    move ! (3 ∷ []) $ use0 𝓛 (‵ (Token.own_val (record {}, tt) (token ∷ []))) (token_made 𝓛) $ fjoin ! $
-    -- [the result; the pass, in two; its token]
-    nothing ! $ move ! (4 ∷ 0 ∷ []) $ two_in ! $
-    -- [the tokens; the result; the pass, in two]
-    nothing ! $ nothing ! $ fjoin ! $ feq_i ! (List Val) (vptr pb po ∷ []) (vptr pb po ∷ []) refl $ move ! (0 ∷ 4 ∷ 5 ∷ []) $ fjoin3 ! $ fjoin ! $
-    returns ! (look_at ! 0 refl) $ free_all ! refl $ keep ! (1 ∷ 0 ∷ 2 ∷ []) $
-    by ! (ends 𝓛 ended hs c y token r (b', (tt, tt)) (tt, (tt, tt)) (fact_i 𝓤 _ (emp 𝓤) (looked b.name b.id b.seen log so.0 so.1, refl, subst (IsRowOf r) asked.2 way.placed))))))))))
+    calls 𝓛 ended (pass 𝓛 0 tt 1 tt, (number 𝓛, tt)) (clauses 𝓛 𝓜.mem 𝓡.returns) _ (λ κs. Only 𝓛 RowToken.the_row RowToken.the_heap (λ r. refl)) 𝓜 𝓡 #self _ (code.unfolded 𝓤 𝓛.H 𝓜 𝓡 wired) (λ κs qs. refl) (λ κs a are. token2 𝓛 (tt, (tt, tt)) (tt, tt) (tt, tt) (tt, record { fits = are.1.0.1 })) (λ κs qs a are gh is end.
+    let b = a.0.now in move ! (1 ∷ []) $ heard ! (HasNumber a.1.0 (state_seen b)) (λ asked. let v : ℕ = asked.0 in
+    use1 𝓛 (later (some (λ (log : List Entry). given (Before b.name b.id b.seen [] log × IsDistinct 𝓛 b.name) (‵ (pass_owns b.name b.id log) ⊛ ‵ (leads b.name v))))) (finds_row 𝓛 b.name b.id b.seen v asked.1) $ await ! tt $ pick ! (λ log. learn ! (λ so. split ! $
+    move ! (1 ∷ []) $ fsplit ! $ move ! (1 ∷ []) $ drop ! $ fpick ! (λ way. let r : RowToken.the_row.Denot = record { marker = record {}; store = b.name.store; row = way.row; chunks = way.chunks; made = way.made } in
+    move ! (1 ∷ 0 ∷ []) $ end r (log, (tt, tt)) (told 𝓤 (looked b.name b.id b.seen log so.0 so.1, refl, subst (IsRowOf r) asked.2 way.placed)))))))

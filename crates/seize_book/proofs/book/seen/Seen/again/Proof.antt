@@ -1,7 +1,6 @@
 -- `again`: what a book owns can be had twice, and a `&` lends it.
-use Rattle.seize_book.proofs.Kit.{ℕ, [], ◌∷◌, refl, proved, named, Val, vptr, SProp, emp, Fml, ftrue, fsep, flft, ‵, raw, ◌⊛◌, ◌$◌, ◌∵◌, !, qed, by, move, keep, drop, split, fsplit, fjoin, use0, no_more, and_then, returns, enter, alloc_all, pass_all, free_all, look_at, get, sets, agg, fact_i, tables, yes, owns, types_at, plain, RefOf, unhide, shr_vals, shr_Tells, nothing, Stays, stay_dropped, walk_of, Goes-dropped}
+use Rattle.seize_book.proofs.CallKit.{[], ◌∷◌, refl, ◌$◌, !, keep, calls, told, token1, Only, shown}
 use Rattle.seize_book.specs.contracts.book.seen.Seen as Seen
-use Rattle.seize_book.proofs.Fields.{Token, token, token_made, ends}
 use Rattle.seize_book.specs.contracts.book.seen.Seen.again.{ended, clauses}
 use Rattle.seize_book.specs.contracts.book.seen.Seen.again.Key.{name as #self}
 use Rattle.seize_book.proofs.book.seen.Seen.again.Statement.{statement}
@@ -9,19 +8,5 @@ use Rattle.seize_book.proofs.book.seen.Seen.again.Code as code
 
 pub again_spec : {M : Type 1} → statement M
 again_spec 𝓤 𝓛 𝓜 𝓡 wired =
-    let H = 𝓛.H in let 𝓣 = tables 𝓤 H 𝓜 𝓡 𝓡.env in let fn = code.function in let c = clauses 𝓛 𝓜.mem 𝓡.returns in let self = RefOf (0 ∷ []) tt (plain (λ _. Seen.the_row)) (λ _. tt) in
-    let hs : Stays ended.signature.params ended.kept = (stay_dropped self yes, tt) in
-    proved 𝓛 ended hs c 𝓜 𝓡 (Goes-dropped 𝓛 1 self yes (λ κs x f. refl), tt) #self fn (code.unfolded 𝓤 H 𝓜 𝓡 wired)
-    (λ κs. (shr_vals, tt)) (λ κs. (shr_Tells (named 0) κs.0 Seen.the_row, tt)) (λ κs qs bounds a gh are.
-    let b = a.0.now in let pb : ℕ = a.0.ref_ptr.0 in let po : ℕ = a.0.ref_ptr.1 in
-    let y : (walk_of 𝓛 ended hs c).Ghost = ((κs, qs, bounds, a, (vptr pb po ∷ [], tt)), gh) in let Post : Val → SProp 𝓤 = (walk_of 𝓛 ended hs c).post y in let toks : Fml = fsep (flft κs.0 qs.0) ftrue in
-    qed 𝓛 ((‵ toks ⊛ ‵ (owns (types_at ended.signature.params κs) a y.0.4)) ∷ raw ((c κs a).requires gh) ∷ []) ∵ split ! $ move ! (1 ∷ []) $ fsplit ! $ fsplit ! $ drop ! $ unhide ! $ fsplit ! $ drop ! $
-    -- [what the book owns; nothing; the tokens; what was asked]
-    keep ! (0 ∷ 2 ∷ []) $
-    enter ! 𝓣.C 𝓣.Λ fn (vptr pb po ∷ []) Post $ alloc_all ! (λ l. pass_all ! refl ((tt, tt), tt) $
-    sets ! (agg ! (no_more !)) refl (tt, tt) $ sets ! (agg ! (and_then ! (get ! refl) (no_more !))) refl (tt, (tt, tt)) $
-    use0 𝓛 (‵ (Token.own_val (record {}, tt) (token ∷ []))) (token_made 𝓛) $ fjoin ! $
-    -- [the result; the tokens]
-    nothing ! $ nothing ! $ fjoin ! $
-    returns ! (look_at ! 0 refl) $ free_all ! refl $ keep ! (2 ∷ 0 ∷ 1 ∷ []) $
-    by ! (ends 𝓛 ended hs c y token b (tt, tt) (tt, tt) (fact_i 𝓤 _ (emp 𝓤) (refl, refl)))))
+    calls 𝓛 ended (shown 𝓛 0 tt (λ κs. Seen.the_row) (λ κs. Seen.the_lent) (λ κs x. refl), tt) (clauses 𝓛 𝓜.mem 𝓡.returns) _ (λ κs. Only 𝓛 Seen.the_row Seen.the_heap (λ r. refl)) 𝓜 𝓡 #self _ (code.unfolded 𝓤 𝓛.H 𝓜 𝓡 wired) (λ κs qs. refl) (λ κs a are. token1 𝓛 (tt, (tt, tt)) (tt, tt) (tt, tt)) (λ κs qs a are gh is end.
+    keep ! (1 ∷ 0 ∷ []) $ end a.0.now (tt, tt) (told 𝓤 (refl, refl)))

@@ -1,5 +1,5 @@
 -- A book begins with its gate shut: its first pass is alone.
-use Rattle.seize_book.proofs.Kit.{static_lft, ◌≡◌, ℕ, [], ◌∷◌, refl, w64, proved, Val, vint, SProp, emp, ftrue, ‵, raw, ◌⊛◌, some, given, later, await, ◌$◌, ◌∵◌, !, qed, by, move, keep, split, split3, fsplit, fjoin, pick, learn, use0, use1, use3, of_opd, no_more, and_then, returns, enter, alloc_all, pass_all, free_all, look_at, get, sets, agg, fact_i, tables, yes, RattleType, owns, types_at, plain, uint_vals, uint_Tells, nothing, Stays, stay_dropped, walk_of, Goes-dropped, List, Fml, fsep, flft}
+use Rattle.seize_book.proofs.Kit.{static_lft, ◌≡◌, ℕ, [], ◌∷◌, refl, w64, proved, Val, vint, SProp, emp, ftrue, ‵, raw, ◌⊛◌, some, given, later, await, ◌$◌, ◌∵◌, !, qed, by, move, keep, split, split3, fsplit, fjoin, pick, learn, use0, use1, of_opd, no_more, and_then, returns, enter, alloc_all, pass_all, free_all, look_at, get, sets, agg, fact_i, tables, yes, RattleType, owns, types_at, plain, uint_vals, uint_Tells, nothing, Stays, stay_dropped, walk_of, Goes-dropped, List, Fml, fsep, flft}
 use mir.Syntax.{a_type, dcons, dnil}
 use mir.MapTy.{inst_fn}
 use denote.Param.{bounded}

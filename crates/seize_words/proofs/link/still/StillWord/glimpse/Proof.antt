@@ -1,25 +1,13 @@
 -- `glimpse` shows what is lent with the value whose key stands beside the word, for as long as that is borrowed.
-use Rattle.seize_book.proofs.Kit.{ℕ, [], ◌∷◌, refl, proved, Val, vptr, SProp, emp, Lft, ftrue, fsep, flft, ‵, raw, ◌⊛◌, ◌$◌, ◌∵◌, !, qed, by, move, keep, drop, split, fsplit, fjoin, use0, use1, no_more, and_then, returns, enter, alloc_all, pass_all, free_all, look_at, get, sets, agg, fact, fact_i, heard, tables, yes, RattleType, owns, types_at, plain, RefOf, shr_vals, shr_Tells, unhide, nothing, Stays, stay_dropped, walk_of, Goes-dropped, named}
+use Rattle.seize_book.proofs.CallKit.{ℕ, [], ◌∷◌, refl, ‵, ◌⊛◌, heard, ◌$◌, !, move, keep, split, use1, calls, told, token1, Of, shown, unit, ShrRef, marked_made, loan_of, label_of, named, named_lft, Lft}
 use Rattle.std.proofs.Common.{Some, drop as rest}
-use base.Fml.{fhide}
-use denote.Builtin.{unit}
-use denote.Memory.{hidden_shr}
-use denote.Ref.{ShrRef}
-use denote.Signature.{named_lft}
-use denote.Struct.Lending.{lent_out}
-use denote.Struct.Owning.{shape, to}
-use denote.Struct.Struct.{Struct}
-use Rattle.seize_content.proofs.Fields.{token, Marked, marked_made}
-use Rattle.seize_book.specs.Loans.{loan_of}
 use Rattle.seize_book.specs.Peeks.{keys_show, sight_if}
-use Rattle.seize_book.specs.Private.{label_of}
 use Rattle.seize_book.specs.Tokens.{leads}
-use Rattle.seize_book.proofs.Fields.{ends}
 use Rattle.seize_book.proofs.Peeks.{shows}
 use Rattle.seize_words.specs.LinkSites.{MayGlimpse}
-use Rattle.seize_words.proofs.Stands.{shown}
 use Rattle.seize_words.specs.contracts.glimpse.Glimpse as Glimpse
 use Rattle.seize_words.specs.contracts.link.still.StillWord as StillWord
+use Rattle.seize_words.proofs.Stands.{shown as past_first}
 use Rattle.seize_words.specs.contracts.link.still.StillWord.glimpse.{ended, clauses}
 use Rattle.seize_words.specs.contracts.link.still.StillWord.glimpse.Key.{name as #self}
 use Rattle.seize_words.proofs.link.still.StillWord.glimpse.Statement.{statement}
@@ -27,22 +15,8 @@ use Rattle.seize_words.proofs.link.still.StillWord.glimpse.Code as code
 
 pub glimpse_spec : {M : Type 1} → statement M
 glimpse_spec 𝓤 𝓛 𝓜 𝓡 wired =
-    let H = 𝓛.H in let 𝓣 = tables 𝓤 H 𝓜 𝓡 𝓡.env in let fn = code.function in let Row : RattleType = StillWord.the_row in let c = clauses 𝓛 𝓜.mem 𝓡.returns in
-    let self = RefOf (0 ∷ []) tt (plain (λ _. Row)) (λ _. tt) in let hs : Stays ended.signature.params ended.kept = (stay_dropped self yes, tt) in
-    proved 𝓛 ended hs c 𝓜 𝓡 (Goes-dropped 𝓛 1 self yes (λ κs x f. refl), tt) #self fn (code.unfolded 𝓤 H 𝓜 𝓡 wired) (λ κs. (shr_vals, tt)) (λ κs. (shr_Tells (named 0) κs.0 Row, tt)) (λ κs qs bounds a gh are.
-    let rb : ℕ = a.0.ref_ptr.0 in let ro : ℕ = a.0.ref_ptr.1 in let κ : Lft = κs.0 in let d : Row.Denot = a.0.now in let v : ℕ = label_of (rest 1 d.held) in let S : RattleType = Glimpse.the_row (named_lft 1 0 tt κs) in let mark : RattleType = ShrRef (named 0) κ unit in
-    let y : (walk_of 𝓛 ended hs c).Ghost = ((κs, qs, bounds, a, (vptr rb ro ∷ [], tt)), gh) in let Post : Val → SProp 𝓤 = (walk_of 𝓛 ended hs c).post y in let Asked : Type 0 = MayGlimpse d.held in
-    qed 𝓛 ((‵ (fsep (flft κ qs.0) ftrue) ⊛ ‵ (owns (types_at ended.signature.params κs) a y.0.4)) ∷ raw (fact 𝓤 Asked) ∷ []) ∵ move ! (1 ∷ []) $ heard ! Asked (λ asked. split ! $ move ! (1 ∷ []) $ fsplit ! $ fsplit ! $
-    -- [the reference; the word; nothing; the token]
-    keep ! (1 ∷ 3 ∷ []) $
-    enter ! 𝓣.C 𝓣.Λ fn (vptr rb ro ∷ []) Post $ alloc_all ! (λ l. pass_all ! refl ((tt, tt), tt) $
-    use1 𝓛 (‵ (hidden_shr (Struct (shape StillWord.the_type)) κ (to StillWord.the_type d) rb ro) ⊛ ‵ (fhide (keys_show d.name d.held κ))) (lent_out 𝓛 StillWord.struct StillWord.the_codes StillWord.the_heap StillWord.the_lent κ d rb ro) $ split ! $ drop ! $ unhide ! $
-    use1 𝓛 (‵ (keys_show d.name (rest 1 d.held) κ)) (shown 𝓛 d.name κ d.held) $
-    use1 𝓛 (‵ (leads d.name v) ⊛ ‵ (sight_if (loan_of v) κ v)) (shows 𝓛 d.name κ (rest 1 d.held) asked.0) $ split ! $ drop ! $
-    -- [what is lent; the token]
-    sets ! (agg ! (no_more !)) refl (tt, tt) $ sets ! (agg ! (and_then ! (get ! refl) (no_more !))) refl (tt, (tt, tt)) $
-    use0 𝓛 (‵ ((Marked mark).own_val (record {}, tt) (token ∷ []))) (marked_made mark 𝓛) $ fjoin ! $ let r : S.Denot = record { marker = record {}; value = Some v } in
-    -- [the result; the token]
-    nothing ! $ nothing ! $ fjoin ! $
-    returns ! (look_at ! 0 refl) $ free_all ! refl $ keep ! (2 ∷ 0 ∷ 1 ∷ []) $
-    by ! (ends 𝓛 ended hs c y token r (tt, tt) (tt, tt) (fact_i 𝓤 _ (emp 𝓤) refl)))))
+    calls 𝓛 ended (shown 𝓛 0 tt (λ κs. StillWord.the_row) (λ κs. StillWord.the_lent) (λ κs x. refl), tt) (clauses 𝓛 𝓜.mem 𝓡.returns) _ (λ κs. Of 𝓛 (Glimpse.the_row (named_lft 1 0 tt κs)) (marked_made (ShrRef (named 0) κs.0 unit) 𝓛) (Glimpse.the_heap κs.0) (λ r. refl)) 𝓜 𝓡 #self _ (code.unfolded 𝓤 𝓛.H 𝓜 𝓡 wired) (λ κs qs. refl) (λ κs a are. token1 𝓛 (tt, (tt, tt)) (tt, tt) (tt, tt)) (λ κs qs a are gh is end.
+    let κ : Lft = κs.0 in let d = a.0.now in let v : ℕ = label_of (rest 1 d.held) in move ! (2 ∷ []) $ heard ! (MayGlimpse d.held) (λ asked.
+    use1 𝓛 (‵ (keys_show d.name (rest 1 d.held) κ)) (past_first 𝓛 d.name κ d.held) $
+    use1 𝓛 (‵ (leads d.name v) ⊛ ‵ (sight_if (loan_of v) κ v)) (shows 𝓛 d.name κ (rest 1 d.held) asked.0) $ split ! $ keep ! (2 ∷ 1 ∷ []) $
+    end (record { marker = record {}; value = Some v }) (tt, tt) (told 𝓤 refl)))

@@ -1,15 +1,11 @@
 -- `rest` leaves the memory as it is: what stood beside the word, as its keys show, is what the keys own.
-use Rattle.seize_book.proofs.Kit.{ℕ, List, [], ◌∷◌, refl, proved, named, Val, vptr, vunit, SProp, emp, ftrue, fsep, flft, ‵, ◌⊛◌, given, ◌$◌, ◌∵◌, !, qed, by, move, keep, drop, split, fsplit, fsplit3, fjoin, fjoin3, fpick, learn, rewrite, feq_i, unit_lit, of_opd, returns, enter, alloc_all, pass_all, free_all, look_at, sets, fact_i, tables, owns, types_at, plain, mut_vals, mut_Tells, nothing, opens, closes, Stays, stay_ref, walk_of, Goes-ref}
+use Rattle.seize_book.proofs.CallKit.{ℕ, List, [], ◌∷◌, refl, sym, subst, ‵, heard, ◌$◌, !, move, drop, fsplit, fjoin, fpick, rewrite, calls, told, unit1, No, whole, keys_own, Entry, HeldKey}
 use Rattle.std.proofs.Common.{Option, Some, subst, sym}
-use Rattle.seize_book.specs.Tokens.{keys_own}
 use Rattle.seize_words.specs.Atomic.{IsWordOf}
-use Rattle.seize_book.specs.Entry.{Entry}
-use Rattle.seize_book.specs.Ledger.{HeldKey}
 use Rattle.seize_words.specs.LinkSites.{KeyRow, LinkSite, owns_by, rows_of, site_in}
 use Rattle.seize_words.specs.Words.{site_keys}
 use Rattle.seize_words.specs.contracts.link.word.LinkWord as LinkWord
 use Rattle.seize_words.proofs.LinkSites.{keys_back, not_still}
-use Rattle.seize_book.proofs.Fields.{ends}
 use Rattle.seize_words.specs.contracts.link.word.LinkWord.rest.{ended, clauses}
 use Rattle.seize_words.specs.contracts.link.word.LinkWord.rest.Key.{name as #self}
 use Rattle.seize_words.proofs.link.word.LinkWord.rest.Statement.{statement}
@@ -17,29 +13,11 @@ use Rattle.seize_words.proofs.link.word.LinkWord.rest.Code as code
 
 pub rest_spec : {M : Type 1} → statement M
 rest_spec 𝓤 𝓛 𝓜 𝓡 wired =
-    let H = 𝓛.H in let 𝓣 = tables 𝓤 H 𝓜 𝓡 𝓡.env in let fn = code.function in let c = clauses 𝓛 𝓜.mem 𝓡.returns in
-    let hs : Stays ended.signature.params ended.kept = (stay_ref (0 ∷ []) tt (plain (λ _. LinkWord.the_row)), tt) in
-    proved 𝓛 ended hs c 𝓜 𝓡 (Goes-ref 𝓛 1 0 tt (plain (λ _. LinkWord.the_row)), tt) #self fn (code.unfolded 𝓤 H 𝓜 𝓡 wired)
-    (λ κs. (mut_vals, tt)) (λ κs. (mut_Tells (named 0) κs.0 LinkWord.the_row, tt)) (λ κs qs bounds a gh are.
-    let w : LinkSite = a.0.now in let b : ℕ = a.0.ref_ptr.0 in let o : ℕ = a.0.ref_ptr.1 in
-    let y : (walk_of 𝓛 ended hs c).Ghost = ((κs, qs, bounds, a, (vptr b o ∷ [], tt)), gh) in let Post : Val → SProp 𝓤 = (walk_of 𝓛 ended hs c).post y in
-    qed 𝓛 ((‵ (fsep (flft κs.0 qs.0) ftrue) ⊛ ‵ (owns (types_at ended.signature.params κs) a y.0.4)) ∷ given _ (‵ ftrue) ∷ []) ∵ move ! (1 ∷ []) $ learn ! (λ asked. drop ! $ split ! $
-    fsplit ! $ move ! (2 ∷ []) $ fsplit ! $ fsplit3 ! $
-    -- [the word, in three entries; nothing; its token; nothing]
-    keep ! (1 ∷ 2 ∷ 4 ∷ []) $
-    enter ! 𝓣.C 𝓣.Λ fn (vptr b o ∷ []) Post $ alloc_all ! (λ l. pass_all ! refl ((tt, tt), tt) $
-    opens ! tt LinkWord.the_row b o (λ vs. move ! (1 ∷ []) $ fsplit ! $ move ! (1 ∷ []) $ rewrite ! 0 (λ (t : Option (ℕ × List KeyRow)). ‵ (owns_by (site_in w) t vs)) (not_still w asked) refl $
-    -- [what a word owns; the type; its cell, in four entries]
+    calls 𝓛 ended (whole 𝓛 0 tt (λ κs. LinkWord.the_row), tt) (clauses 𝓛 𝓜.mem 𝓡.returns) _ (λ κs. No 𝓛) 𝓜 𝓡 #self _ (code.unfolded 𝓤 𝓛.H 𝓜 𝓡 wired) (λ κs qs. refl) (λ κs a are. unit1 𝓛 (tt, tt)) (λ κs qs a are gh is end.
+    let w : LinkSite = a.0.now in move ! (1 ∷ []) $ heard ! _ (λ asked. fsplit ! $ move ! (1 ∷ []) $ rewrite ! 0 (λ (t : Option (ℕ × List KeyRow)). ‵ (owns_by (site_in w) t is.0)) (not_still w asked) refl $
     fsplit ! $ drop ! $ fpick ! (λ n. fsplit ! $ move ! (1 ∷ []) $ fpick ! (λ t. fsplit ! $ fpick ! (λ so. drop ! $
-    -- [the keys; the fields; the type; its cell, in four entries]
-    let held : List (HeldKey Entry) = site_keys (site_in w) t.0 t.1 in let rows : List KeyRow = rows_of held in let w' : LinkSite = record w { still = Some (n, rows) } in
-    rewrite ! 0 (λ (hs : List (HeldKey Entry)). ‵ (keys_own w.name hs)) (sym (keys_back held)) refl $
-    move ! (1 ∷ 0 ∷ []) $ fjoin ! $ move ! (1 ∷ 0 ∷ []) $ fjoin ! $ move ! (1 ∷ 0 ∷ 2 ∷ 3 ∷ 4 ∷ []) $
-    closes ! tt LinkWord.the_row w' vs b o $
-    -- [the word, in two; its token]
-    sets ! (of_opd ! (unit_lit !)) refl (tt, tt) $ feq_i ! (List Val) (vunit ∷ []) (vunit ∷ []) refl $
-    nothing ! $ move ! (4 ∷ 0 ∷ []) $ fjoin ! $
-    -- [the tokens; the result; the word, in two]
-    nothing ! $ feq_i ! (List Val) (vptr b o ∷ []) (vptr b o ∷ []) refl $ move ! (0 ∷ 4 ∷ 5 ∷ []) $ fjoin3 ! $ fjoin ! $
-    returns ! (look_at ! 0 refl) $ free_all ! refl $ keep ! (1 ∷ 0 ∷ 2 ∷ []) $
-    by ! (ends 𝓛 ended hs c y vunit tt (w', tt) (tt, tt) (fact_i 𝓤 _ (emp 𝓤) ((n, rows), (refl, subst (λ (hs : List (HeldKey Entry)). IsWordOf (record { marker = record {}; name = w.name; held = hs }) n) (sym (keys_back held)) (refl, so.0, so.1), refl), refl))))))))))
+    -- [the keys; the word; its form]
+    let held : List (HeldKey Entry) = site_keys (site_in w) t.0 t.1 in let rows : List KeyRow = rows_of held in
+    rewrite ! 0 (λ (hs : List (HeldKey Entry)). ‵ (keys_own w.name hs)) (sym (keys_back held)) refl $ move ! (1 ∷ 0 ∷ []) $ fjoin ! $ move ! (1 ∷ 0 ∷ []) $ fjoin ! $
+    end tt (record w { still = Some (n, rows) }, tt)
+    (told 𝓤 ((n, rows), (refl, subst (λ (hs : List (HeldKey Entry)). IsWordOf (record { marker = record {}; name = w.name; held = hs }) n) (sym (keys_back held)) (refl, so.0, so.1), refl), refl)))))))
