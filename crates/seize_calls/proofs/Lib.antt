@@ -21,6 +21,7 @@ pub mod Settled
 pub mod Strolls
 pub mod Tries
 pub mod Turns
+pub mod Unattempted
 pub mod Walks
 pub mod Weights
 pub mod Whole

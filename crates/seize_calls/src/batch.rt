@@ -39,7 +39,7 @@ pub struct Newcomer {
 }
 
 impl Batch {
-    ghost use Rattle.std.specs.Prelude.{length, max, min, nat_le, ◌-◌};
+    ghost use Rattle.std.specs.Prelude.{length, max, min, nat_le, nat_lt, ◌-◌};
     ghost use Rattle.seize_book.specs.Others.{book_of};
     ghost use Rattle.seize_book.specs.Values.{IsEmpty, IsEmptyIn, book_in};
     ghost use Rattle.seize_calls.specs.Batches.{IsPushed, keys_in};
@@ -119,6 +119,14 @@ impl Batch {
         ensures { result ≡ nat_le (max 1 size) (length (values_of (keys_in self.now))) }
     {
         self.len != 0 && self.len >= size
+    }
+
+    /// Whether it has fewer values with one more. It compares two words.
+    #[inline(always)]
+    pub(crate) fn stays_short(&self, size: usize) -> bool
+        ensures { result ≡ nat_lt (length (values_of (keys_in self.now)) + 1) size }
+    {
+        self.len.saturating_add(1) < size
     }
 
     /// All its values come out, with the number of the first one's block, and none are left.

@@ -91,7 +91,7 @@ pub struct Slot<T> {
 }
 
 impl<T: Drop> Slot<T> {
-    ghost use Rattle.std.specs.Prelude.{get_or, length, min, ◌-◌, ◌^◌, ◌&&◌};
+    ghost use Rattle.std.specs.Prelude.{[], get_or, length, min, ◌-◌, ◌^◌, ◌&&◌};
     ghost use Rattle.seize_book.specs.Others.{MayGather, MayGive, MayTakeNumber, use_flags};
     ghost use Rattle.seize_book.specs.Slots.{active_of, slot_of};
     ghost use Rattle.seize_book.specs.Values.{values_of};
@@ -408,6 +408,42 @@ impl<T: Drop> Slot<T> {
         let retired = self.holder.retire(words, newcomer, reclaimer, pass, manner);
         self.seen.learn(pass);
         retired
+    }
+
+    /// Retires the value as `retire` does, where nothing is attempted: with it too, the slot's batch has fewer values than the batch size
+    /// says. It needs no reclaimer, takes no memory and waits for nobody.
+    ///
+    /// # Errors
+    ///
+    /// The value, where the batch would be full with it. Then nothing was done.
+    #[inline(always)]
+    pub fn retire_short(
+        &mut self,
+        words: &Words<T>,
+        value: Loose,
+        kept: u64,
+        pass: &mut Pass,
+    ) -> Result<(), Loose>
+        requires of { IsSlotOf words.now self.old × IsPassOf words.now pass.old }
+        requires value { IsLooseOf words.now value }
+        ensures of { IsSlotOf words.now self.new × KeepsActivation self.old self.new }
+        ensures laid { Lays pass.old (its_spots self.old) pass.new (its_spots self.new) }
+        ensures retires { IfOk result (λ _. SlotRetires self.old pass.old value kept [] self.new pass.new [] false) }
+        ensures back { IfErr result (λ back. (back ≡ value) × (self.new ≡ self.old) × (pass.new ≡ pass.old)) }
+    {
+        if !self.holder.batch.stays_short(words.size) {
+            return Err(value);
+        }
+        pass.learn(&self.seen);
+        let Loose { number, value } = value;
+        let newcomer = Newcomer {
+            number,
+            kept,
+            value,
+        };
+        self.holder.retire_short(words, newcomer, pass);
+        self.seen.learn(pass);
+        Ok(())
     }
 
     /// Attempts the batch of the slot, which is active, at any length. It says whether the batch was retired with the values that it had.
