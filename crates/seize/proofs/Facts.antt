@@ -16,24 +16,24 @@ use Rattle.seize_words.specs.Chunks.{IsLentAs}
 use Rattle.seize_words.proofs.Facts.{told_later, told_once}
 use Rattle.seize_words.specs.declared.words.Words.{Words}
 use Rattle.seize_parts.specs.Blocks.{HasContent}
-use Rattle.seize_parts.specs.Links.{Shows, shared_value}
+use Rattle.seize_guards.specs.Links.{Shows, shared_value}
 use Rattle.seize.specs.Collectors.{its_book, seen_by}
 use Rattle.seize_parts.specs.Laws.{LawsHold, WaitsBelow, moments_seen, opening_of}
 use Rattle.seize_parts.specs.Makes.{IsOfKind}
 use Rattle.seize.specs.Reclaims.{Learns, ReclaimsAll, moments_kept, moments_of}
 use Rattle.seize.specs.declared.collector.Collector.{Collector}
-use Rattle.seize_parts.specs.declared.block.shared.Shared.{Shared}
+use Rattle.seize_guards.specs.declared.block.shared.Shared.{Shared}
 -- what was found stays found; and what one call makes and then another
-pub use Rattle.seize_parts.proofs.Found.{found_still}
+pub use Rattle.seize_guards.proofs.Found.{found_still}
 pub use Rattle.seize_parts.proofs.Made.{makes_then, then_none}
 -- a name says one content: `coded` is `T.row.coded`
-pub use Rattle.seize_parts.proofs.Allowing.{content_once}
+pub use Rattle.seize_guards.proofs.Allowing.{content_once}
 -- a pass that took a number, or gave one back
-pub use Rattle.seize_parts.proofs.Same.{same_ended, same_taken}
+pub use Rattle.seize_guards.proofs.Same.{same_ended, same_taken}
 -- what the rule of links carries on, and what a name says
 pub use Rattle.seize_parts.proofs.Ruled.{follows_between, held_after, held_at_last, held_between, held_from, held_through, held_throughout, holds_said, kept_within, says_once, since_seen}
 -- from a read or a won exchange to what the link holds later, by the rule; and a block in hand is what its name says
-pub use Rattle.seize_parts.proofs.Onwards.{earlier_since, end_onwards, lost_there, named_says, read_onwards, read_there, read_till_read, still_since, won_onwards, won_there}
+pub use Rattle.seize_guards.proofs.Onwards.{earlier_since, end_onwards, lost_there, named_says, read_onwards, read_there, read_till_read, still_since, won_onwards, won_there}
 -- what calls made with a pass stands among the moments of which the laws speak, and in each list that goes on
 pub use Rattle.seize_parts.proofs.Stands.{made_since, read_found, reclaimed_still, retired_still}
 -- and a value whose retirement returned is retired there

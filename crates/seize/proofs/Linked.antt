@@ -34,8 +34,8 @@ use Rattle.seize_parts.specs.Reservations.{IsUnitIn}
 use Rattle.seize_parts.specs.declared.block.owned.Owned.{Owned}
 use Rattle.seize.specs.declared.block.taken.Taken.{Taken}
 use Rattle.seize.proofs.Facts.{content_once}
-use Rattle.seize_parts.proofs.Found.{none_held}
-use Rattle.seize_parts.proofs.Readable.{swapped_readable}
+use Rattle.seize_guards.proofs.Found.{none_held}
+use Rattle.seize_guards.proofs.Readable.{swapped_readable}
 use Rattle.seize_parts.proofs.Stilled.{alone_from, still_learned}
 
 module _ (n : Name) (s : ℕ) (unit : Activation) (seen : Seen) (its : IsUnitIn n s unit seen) (number : ℕ) (link : Link) (at : link_number link ≡ number) (pass learned : Pass) (sole : IsSole pass.id) (learns : Learns pass seen learned) where

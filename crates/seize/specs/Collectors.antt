@@ -22,7 +22,7 @@ use Rattle.seize_words.specs.declared.words.Words.{Words}
 use Rattle.seize_parts.specs.Makes.{made_with}
 use Rattle.seize.specs.declared.collector.Collector.{Collector}
 pub use Rattle.seize_calls.specs.Together.{IsPassOf}
-pub use Rattle.seize_parts.specs.Collectors.{BelongsTo, IsBlockOf, collector_id, its_links, its_store}
+pub use Rattle.seize_guards.specs.Collectors.{BelongsTo, IsBlockOf, collector_id, its_links, its_store}
 
 abbrev pub its_words : {T R : Type 0} → Collector T R → Words T
 its_words collector = collector.parts.words

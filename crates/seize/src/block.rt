@@ -3,6 +3,6 @@
 //! so too, and borrows nothing, while its collector is in one caller's hands.
 mod taken;
 
-pub use seize_parts::block::{Failed, Owned, Shared, Unlinked};
+pub use seize_guards::block::{Failed, Owned, Shared, Unlinked};
 pub(crate) use taken::Content;
 pub use taken::Taken;

@@ -11,14 +11,14 @@ use crate::guard::OwnedGuard;
 use crate::registration::Registration;
 pub use ids::IdSource;
 use seize_cells::Lock;
+use seize_guards::block::{add_block, from_owned};
+use seize_guards::holders::{enter_owned, register};
+use seize_guards::parts::{Home, Parts};
 use seize_machine::machine;
-use seize_parts::block::{add_block, from_owned};
 use seize_parts::ender::Ender;
 use seize_parts::ending::end_all;
-use seize_parts::holders::{enter_owned, register};
 use seize_parts::numbers::Numbers;
 use seize_parts::numbers::reclaiming::{Heard, Sweeping};
-use seize_parts::parts::{Home, Parts};
 use seize_parts::reclaim::{Boxed, Reclaim, Watch};
 use seize_table::Refusal;
 use seize_words::book::{Pass, Porter, Seen, Stay};
@@ -87,9 +87,9 @@ impl<T: Drop, R: Reclaim<T>> Collector<T, R> {
     ghost use Rattle.std.specs.Int.{IsNextPowerOfTwo};
     ghost use Rattle.seize_table.specs.declared.refusal.Refusal.TheVariants.{NoMemory as no_memory};
     ghost use Rattle.seize_parts.specs.Blocks.{HasContent, content};
-    ghost use Rattle.seize_parts.specs.Links.{IsUnlinkedOf, unlinked_name};
+    ghost use Rattle.seize_guards.specs.Links.{IsUnlinkedOf, unlinked_name};
     ghost use Rattle.seize.specs.Collectors.{BeginsEmpty, BelongsTo, IsBlockOf, IsNewPassOf, IsPassOf, IsRefusalFor, its_book, its_id, its_links, its_most, its_size, its_words, seen_by};
-    ghost use Rattle.seize_parts.specs.Registrations.{registered_home, registered_in, registered_slot};
+    ghost use Rattle.seize_guards.specs.Registrations.{registered_home, registered_in, registered_slot};
     ghost use Rattle.seize_book.specs.Porters.{Shuts};
     ghost use Rattle.seize_parts.specs.Makes.{MakesNone, TakesNumber};
     ghost use Rattle.seize_parts.specs.Puts.{PutBy};
@@ -295,7 +295,7 @@ impl<T: Drop, R: Reclaim<T>> Collector<T, R> {
     ghost use Rattle.seize_parts.specs.Rules.{KeepsSince};
     ghost use Rattle.seize_parts.specs.Makes.{MakesNone, TakesAndEnters};
     ghost use Rattle.seize_parts.specs.Puts.{PutBy};
-    ghost use Rattle.seize_parts.specs.Guards.{owned_collector, owned_home, owned_slot};
+    ghost use Rattle.seize_guards.specs.Guards.{owned_collector, owned_home, owned_slot};
 
     /// A guard that threads share, with a slot of its own: that of the least number that is not in use, which is taken as `register` takes
     /// it, and then enters. So the guard holds back nothing of what slots left.

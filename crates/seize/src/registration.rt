@@ -3,7 +3,7 @@ use crate::collector::Collector;
 use seize_parts::reclaim::Boxed;
 
 /// A slot of a collector, in the hands of one thread.
-pub type Registration<'c, T, R = Boxed> = seize_parts::registration::Registration<
+pub type Registration<'c, T, R = Boxed> = seize_guards::registration::Registration<
     'c,
     T,
     R,

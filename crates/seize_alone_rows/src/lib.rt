@@ -29,4 +29,6 @@ mod oracle;
 #[cfg(test)]
 mod random;
 #[cfg(test)]
+mod refused;
+#[cfg(test)]
 mod watching;

@@ -9,8 +9,8 @@ use Rattle.seize.specs.Links.{ComesOut, Shows, found_name}
 use Rattle.seize.specs.Machine.Event.{ReadLink}
 use Rattle.seize.specs.Makes.{MakesOne}
 use Rattle.seize_book.specs.declared.book.pass.Pass.{Pass}
-use Rattle.seize_parts.specs.declared.block.shared.Shared.{Shared}
-use Rattle.seize_parts.specs.declared.block.unlinked.Unlinked.{Unlinked}
+use Rattle.seize_guards.specs.declared.block.shared.Shared.{Shared}
+use Rattle.seize_guards.specs.declared.block.unlinked.Unlinked.{Unlinked}
 use Rattle.seize_words.specs.declared.words.Words.{Words}
 use Rattle.seize_atomic.specs.Attempts.{AttemptsCell}
 use Rattle.seize_atomic.specs.Cells.{RetiresOut, out_name}

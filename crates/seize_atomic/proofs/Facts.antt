@@ -16,7 +16,7 @@ use Rattle.seize.specs.Rules.{Says}
 use Rattle.seize.specs.Links.{Shows, shared_value}
 use Rattle.seize.proofs.Facts.{earlier_since, lost_there, makes_then, read_there, still_since, won_there}
 use Rattle.seize_book.specs.declared.book.pass.Pass.{Pass}
-use Rattle.seize_parts.specs.declared.block.shared.Shared.{Shared}
+use Rattle.seize_guards.specs.declared.block.shared.Shared.{Shared}
 use Rattle.seize_words.specs.declared.words.Words.{Words}
 use Rattle.seize_atomic.specs.Cells.{RetiresOut}
 use Rattle.seize_atomic.specs.Alters.{AltersCell, IsMadeBy, MayAnswer, Refuses, TriesCell}

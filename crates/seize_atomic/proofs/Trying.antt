@@ -15,10 +15,10 @@ use Rattle.seize.specs.Makes.{MakesOne}
 use Rattle.seize.specs.Rules.{Says}
 use Rattle.seize.proofs.Facts.{named_says}
 use Rattle.seize_book.specs.declared.book.pass.Pass.{Pass}
-use Rattle.seize_parts.specs.declared.block.failed.Failed.{Failed}
+use Rattle.seize_guards.specs.declared.block.failed.Failed.{Failed}
 use Rattle.seize_parts.specs.declared.block.owned.Owned.{Owned}
-use Rattle.seize_parts.specs.declared.block.shared.Shared.{Shared}
-use Rattle.seize_parts.specs.declared.block.unlinked.Unlinked.{Unlinked}
+use Rattle.seize_guards.specs.declared.block.shared.Shared.{Shared}
+use Rattle.seize_guards.specs.declared.block.unlinked.Unlinked.{Unlinked}
 use Rattle.seize_words.specs.declared.activation.Activation.{Activation}
 use Rattle.seize_words.specs.declared.words.Words.{Words}
 use Rattle.seize_atomic.specs.Attempts.{AttemptsCell}

@@ -12,8 +12,8 @@ use Rattle.seize.specs.Links.{ComesOut, IsUnlinkedOf, Shows, found_name}
 use Rattle.seize.specs.Machine.Event.{ExchangeLink}
 use Rattle.seize.specs.Makes.{MakesOne}
 use Rattle.seize_book.specs.declared.book.pass.Pass.{Pass}
-use Rattle.seize_parts.specs.declared.block.shared.Shared.{Shared}
-use Rattle.seize_parts.specs.declared.block.unlinked.Unlinked.{Unlinked}
+use Rattle.seize_guards.specs.declared.block.shared.Shared.{Shared}
+use Rattle.seize_guards.specs.declared.block.unlinked.Unlinked.{Unlinked}
 use Rattle.seize_words.specs.declared.words.Words.{Words}
 use Rattle.seize_atomic.specs.Alters.{IsMadeBy, MakesBlock, Refuses}
 use Rattle.seize_atomic.specs.declared.attempt.Missed.{Missed}

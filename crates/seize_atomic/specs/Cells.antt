@@ -23,10 +23,10 @@ use Rattle.seize.specs.Links.{unlinked_name}
 use Rattle.seize.specs.Machine.Event.{ExchangeLink}
 use Rattle.seize.specs.Makes.{Defers, IsOfKind, MakesOne}
 use Rattle.seize_book.specs.declared.book.pass.Pass.{Pass}
-use Rattle.seize_parts.specs.declared.block.failed.Failed.{Failed}
+use Rattle.seize_guards.specs.declared.block.failed.Failed.{Failed}
 use Rattle.seize_parts.specs.declared.block.owned.Owned.{Owned}
-use Rattle.seize_parts.specs.declared.block.unlinked.Unlinked.{Unlinked}
-use Rattle.seize_parts.specs.declared.parts.Home.{Ghosts}
+use Rattle.seize_guards.specs.declared.block.unlinked.Unlinked.{Unlinked}
+use Rattle.seize_guards.specs.declared.parts.Home.{Ghosts}
 use Rattle.seize_words.specs.declared.activation.Activation.{Activation}
 use Rattle.seize_words.specs.declared.words.Words.{Words}
 use Rattle.seize_atomic.specs.declared.cells.Cells.{Cells}

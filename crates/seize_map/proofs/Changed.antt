@@ -24,8 +24,8 @@ use Rattle.seize.specs.Moments.{ExchangesOnly, LooksOnly, StandsSince}
 use Rattle.seize.specs.Rules.{Says}
 use Rattle.seize.proofs.Facts.{says_once}
 use Rattle.seize_book.specs.declared.book.pass.Pass.{Pass}
-use Rattle.seize_parts.specs.declared.block.shared.Shared.{Shared}
-use Rattle.seize_parts.specs.declared.parts.Home as home
+use Rattle.seize_guards.specs.declared.block.shared.Shared.{Shared}
+use Rattle.seize_guards.specs.declared.parts.Home as home
 use Rattle.seize_words.specs.declared.words.Words.{Words}
 use Rattle.seize_atomic.specs.Alters.{AltersCell}
 use Rattle.seize_atomic.specs.Cells.{cells_kind}

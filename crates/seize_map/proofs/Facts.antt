@@ -11,7 +11,7 @@ use Rattle.core.specs.declared.hash.build.BuildHasher as builder
 use Rattle.seize.specs.Machine.State.{State, link_at}
 use Rattle.seize.specs.Rules.{Says}
 use Rattle.seize.proofs.Facts.{says_once}
-use Rattle.seize_parts.specs.declared.parts.Home as home
+use Rattle.seize_guards.specs.declared.parts.Home as home
 use Rattle.seize_book.specs.declared.book.pass.Pass.{Pass}
 use Rattle.seize_map.specs.Buckets.{entry_under, value_in, value_of}
 use Rattle.seize_map.specs.Maps.{Has, ReadsBucket, place_of}

@@ -39,7 +39,7 @@ use Rattle.seize.specs.Makes.{MakesOne}
 use Rattle.seize.specs.Moments.{ExchangesOnly, LooksOnly, StandsSince}
 use Rattle.seize.specs.Rules.{Says}
 use Rattle.seize_book.specs.declared.book.pass.Pass.{Pass}
-use Rattle.seize_parts.specs.declared.parts.Home as home
+use Rattle.seize_guards.specs.declared.parts.Home as home
 use Rattle.seize_words.specs.declared.words.Words.{Words}
 use Rattle.seize_atomic.specs.Alters.{AltersCell}
 use Rattle.seize_atomic.specs.Cells.{cells_home, cells_kind}

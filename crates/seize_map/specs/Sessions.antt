@@ -13,7 +13,7 @@ use Rattle.seize.specs.Guards.{guard_slot}
 use Rattle.seize.specs.Registrations.{registered_slot}
 use Rattle.seize.specs.declared.collector.Collector.{Collector}
 use Rattle.seize_book.specs.declared.book.pass.Pass.{Pass}
-use Rattle.seize_parts.specs.declared.parts.Home as home
+use Rattle.seize_guards.specs.declared.parts.Home as home
 use Rattle.seize_map.specs.declared.bucket.Bucket.{Bucket}
 use Rattle.seize_map.specs.declared.map.HashMap.{HashMap}
 use Rattle.seize_map.specs.declared.session.Handle.{Handle}

@@ -10,8 +10,8 @@ use crate::bucket::{Bucket, Entry};
 use crate::map::HashMap;
 use crate::settled::NotChanged;
 use seize::{Collector, Guard, Home, Pass, Reclaim, Refusal};
-use seize_parts::guard::LocalGuard;
-use seize_parts::registration::Registration;
+use seize_guards::guard::LocalGuard;
+use seize_guards::registration::Registration;
 use std::hash::{BuildHasher, Hash};
 use std::sync::{Arc, Wait};
 

@@ -1,6 +1,6 @@
 -- A slot in use attempts its batch, where its pass is alone: it enters, flushes and leaves. What its reclaimer puts waits apart, so the state
 -- is the one that the model has where nothing is put.
-use Rattle.std.proofs.Common.{◌≡◌, ℕ, true, false, Bool, List, [], ◌++◌, refl, sym, ap, subst, ◌∙◌}
+use Rattle.std.proofs.Common.{◌≡◌, ℕ, true, false, Bool, List, [], ◌++◌, sym, ap, subst, ◌∙◌}
 use base.Stored.{Coded}
 use Rattle.seize_machine.specs.Machine.State.{are_distinct, linked_values}
 use Rattle.seize_model.specs.Waiting.Attempt.{StateAndGone, attempt}

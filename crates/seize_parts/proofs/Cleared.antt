@@ -8,7 +8,7 @@ use Rattle.std.proofs.Common.{◌≡◌, ◌⊎◌, ℕ, zero, suc, ◌<◌, ◌
 use Rattle.std.specs.Prelude.{slice_index_or}
 use Rattle.std.specs.List.{Contains, list_all}
 use Rattle.std.specs.Option.{is_none}
-use Rattle.std.proofs.lemmas.List.{get_or_past, length-map}
+use Rattle.std.proofs.lemmas.List.{length-map}
 use Rattle.seize_machine.proofs.Facts.{and_true, free_empty, law_quiet, law_unused, not_true}
 use Rattle.seize_machine.specs.Machine.History.{IsReached, Reclaimed, Retired, answers_of}
 use Rattle.seize_machine.specs.Machine.Laws.{is_quiet, is_unused}

@@ -5,7 +5,7 @@
 --     here_ended                 what was kept lies here, or is kept still
 --     last_more, numbers_all     one number more, the one before;  beyond all that are kept nothing is done
 --     spent_less, none_less, kept_less     none is kept in one place more
-use Rattle.std.proofs.Common.{◌≡◌, ◌⊎◌, ℕ, zero, suc, ◌+◌, ◌-◌, ◌<◌, ◌≤◌, ◌||◌, ◌&&◌, inl, inr, ⊎_elim, Bool, true, false, not, List, [], ◌∷◌, ◌++◌, length, map, Option, None, Some, is_some, get_or, reverse, slice_set, refl, sym, ap, subst, ◌∙◌, arith}
+use Rattle.std.proofs.Common.{◌≡◌, ◌⊎◌, ℕ, zero, suc, ◌+◌, ◌-◌, ◌<◌, ◌≤◌, ◌||◌, ◌&&◌, inl, inr, ⊎_elim, Bool, true, false, List, [], ◌∷◌, ◌++◌, length, Option, None, Some, is_some, get_or, reverse, slice_set, refl, sym, ap, subst, ◌∙◌, arith}
 use Rattle.std.specs.List.{list_any, range_with_len}
 use Rattle.std.specs.Option.{is_none}
 use Rattle.std.proofs.Math.ListN.{get_or-map}
@@ -17,7 +17,7 @@ use Rattle.seize_machine.proofs.Facts.{Step, free_empty}
 use Rattle.seize_machine.specs.Machine.Event.{Give}
 use Rattle.seize_machine.specs.Machine.Frames.{used}
 use Rattle.seize_machine.specs.Machine.Next.{after_give, ends_now, is_empty}
-use Rattle.seize_machine.specs.Machine.State.{Head, Inactive, Slot as Record, State, are_distinct, head_at, is_active, linked_values, no_slot, slot_at}
+use Rattle.seize_machine.specs.Machine.State.{Inactive, Slot as Record, State, are_distinct, head_at, is_active, linked_values, no_slot, slot_at}
 use Rattle.seize_machine.specs.declared.machine.event.Answer.{Answer}
 use Rattle.seize_model.specs.Waiting.Calls.{is_free}
 use Rattle.seize_model.specs.Waiting.State.{ModelSlot, ModelState, has_guard, model_slot}

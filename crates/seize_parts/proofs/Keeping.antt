@@ -6,7 +6,7 @@
 --     off_then, active_then, idle_then, active_none, idle_none     what stays of slots, twice, and where nothing was done
 --     spent_more                 one batch more is spent
 --     gives_goes                 the numbers go back, as one part of a reclaim of all
-use Rattle.std.proofs.Common.{◌≡◌, ℕ, zero, suc, ◌+◌, ◌<◌, ◌≤◌, true, false, not, ◌==◌, List, [], ◌∷◌, length, Option, None, Some, get_or, refl, sym, ap, subst, ◌∙◌, arith}
+use Rattle.std.proofs.Common.{◌≡◌, ℕ, zero, suc, ◌+◌, ◌<◌, ◌≤◌, true, false, not, ◌==◌, List, [], length, Option, None, Some, get_or, refl, sym, ap, subst, ◌∙◌, arith}
 use Rattle.std.specs.List.{range_with_len}
 use Rattle.std.specs.Option.{is_none}
 use Rattle.std.proofs.lemmas.List.{get_or_past}
@@ -23,7 +23,7 @@ use Rattle.seize_calls.specs.Handing.{IsServed}
 use Rattle.seize_calls.specs.declared.further.Further.{Further}
 use Rattle.seize_calls.specs.Slots.{its_batch}
 use Rattle.seize_calls.specs.declared.slot.Slot.{Slot}
-use Rattle.seize_alone.specs.Reclaiming.{batch_in_turn, batches_in_turn}
+use Rattle.seize_alone.specs.Reclaiming.{batches_in_turn}
 use Rattle.seize_alone.proofs.Outlines.{guards_in, kind_in, outline, slots_in}
 use Rattle.seize_parts.specs.Aparts.{AreKeptOf, Goes, LeadsHands}
 use Rattle.seize_parts.specs.Numbers.{flags_of}

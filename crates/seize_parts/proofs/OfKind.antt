@@ -16,11 +16,8 @@ use Rattle.seize_book.specs.declared.book.pass.Pass.{Pass}
 use Rattle.seize_book.specs.declared.book.slot_key.SlotKey.{SlotKey}
 use Rattle.seize_book.specs.declared.book.value_keys.ValueKeys.{ValueKeys}
 use Rattle.seize_words.proofs.Facts.{told_later}
-use Rattle.seize_calls.specs.Alone.{Onward}
 use Rattle.seize_calls.specs.Calls.{RetiresOne}
 use Rattle.seize_calls.specs.Handing.{Had}
-use Rattle.seize_calls.specs.Settling.{CallState, Drains}
-use Rattle.seize_calls.proofs.Alone.{onward_none, onward_twice}
 use Rattle.seize_calls.proofs.Onwards.{round_on}
 use Rattle.seize_parts.proofs.Stands.{rest_of}
 

@@ -6,7 +6,7 @@
 --     batch_outline, batches_outline     slots without guards that attempt their batches are as they were
 --     use_batch, use_at, use_other, use_long     a number that was made is in use again, and what was left is its batch
 --     number_at, number_other, numbers_long     it goes back
-use Rattle.std.proofs.Common.{◌≡◌, ℕ, ◌==◌, ◌-◌, ◌+◌, ◌<◌, ◌≤◌, Bool, true, false, not, if◌then◌else◌, List, [], ◌∷◌, ◌++◌, length, map, get_or, set, refl, sym, ap, subst, ◌∙◌, arith}
+use Rattle.std.proofs.Common.{◌≡◌, ℕ, ◌==◌, ◌-◌, ◌<◌, ◌≤◌, Bool, true, false, not, if◌then◌else◌, List, [], ◌∷◌, ◌++◌, length, get_or, set, refl, sym, ap, subst, ◌∙◌, arith}
 use Rattle.std.proofs.Math.Seq.{map-set_same}
 use Rattle.std.proofs.lemmas.List.{get_or-set_other, get_or-set_same, get_or_push, length-set, map-set}
 use Rattle.std.proofs.lemmas.List.Sums.{prefix_len-le-length}
@@ -17,7 +17,7 @@ use Rattle.seize_model.specs.Waiting.State.{ModelSlot, ModelState, has_guard, mo
 use Rattle.seize_model.proofs.Cases.{either}
 use Rattle.seize_machine.proofs.Facts.{eq_true}
 use Rattle.seize_book.proofs.Facts.{equal, unequal}
-use Rattle.seize_alone.specs.Reclaiming.{batch_in_turn, batches_in_turn, last_guard_left, number_in_turn, numbers_in_turn, part_in_turn, parts_in_turn}
+use Rattle.seize_alone.specs.Reclaiming.{batch_in_turn, batches_in_turn, last_guard_left, number_in_turn, part_in_turn, parts_in_turn}
 use Rattle.seize_alone.proofs.Outlines.{attempt_frame, guards_in, kind_in, less_frame, outline, outline_of, slot_in, slots_in}
 use Rattle.seize_alone.proofs.Ready.{nothing, nothing_further}
 use Rattle.seize_alone.proofs.Sizes.{attempt_size, parts_size as further_size}

@@ -7,7 +7,7 @@
 --     parts_all                  so many slots parted as there are
 --     moved_some, moved_none     a slot is kept in a place where it parted, and else none
 --     kept_parted                the slots that parted are kept
-use Rattle.std.proofs.Common.{◌≡◌, ◌⊎◌, inl, inr, ⊎_elim, ℕ, zero, suc, ◌==◌, ◌+◌, ◌<◌, ◌≤◌, Bool, true, false, not, ◌&&◌, if◌then◌else◌, List, [], ◌∷◌, length, Option, None, Some, option_map, get_or, slice_set, refl, sym, ap, subst, ◌∙◌, arith}
+use Rattle.std.proofs.Common.{◌≡◌, ◌⊎◌, inl, inr, ⊎_elim, ℕ, zero, suc, ◌==◌, ◌+◌, ◌<◌, ◌≤◌, Bool, true, false, not, ◌&&◌, if◌then◌else◌, List, [], length, Option, None, Some, option_map, get_or, slice_set, refl, sym, ap, subst, ◌∙◌, arith}
 use Rattle.std.specs.List.{range_with_len}
 use Rattle.std.specs.Option.{is_none}
 use Rattle.std.proofs.lemmas.List.{get_or-set_same, get_or-set_other, get_or_past, length-set}
@@ -39,7 +39,7 @@ use Rattle.seize_alone.proofs.Outlines.{outline_of}
 use Rattle.seize_alone.proofs.Singles.{guards_held}
 use Rattle.seize_parts.specs.Aparts.{AreKeptOf, Fits, Goes, MovesToKept, IsSomeHeld, MayGo, MayPart, WaitsBehind}
 use Rattle.seize_parts.specs.Places.{IsUnmoved}
-use Rattle.seize_parts.specs.Placing.{ArePlaces, AreSound, Lies, lies_for, lying_in, unit_in, what_lies_in}
+use Rattle.seize_parts.specs.Placing.{ArePlaces, Lies, lies_for, lying_in, unit_in, what_lies_in}
 use Rattle.seize_parts.specs.Reservations.{place_label}
 use Rattle.seize_parts.specs.Told.{HasTold}
 use Rattle.seize_parts.specs.declared.alone.place.Place.{Place}

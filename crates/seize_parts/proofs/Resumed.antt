@@ -5,7 +5,7 @@
 --     taken_key                  as its key knows it
 --     took_goes, took_led        it took its number, and no call has begun;  what stays then
 --     resumed_goes, resumed_led     a call has begun, and the slot went on with it;  what stays then
-use Rattle.std.proofs.Common.{◌≡◌, ℕ, ◌+◌, max, nat_le, Bool, true, false, if◌then◌else◌, List, [], ◌∷◌, ◌++◌, length, get_or, map, Option, None, Some, is_some, refl, sym, ap, subst, ◌∙◌}
+use Rattle.std.proofs.Common.{◌≡◌, ℕ, ◌+◌, max, nat_le, Bool, true, false, if◌then◌else◌, List, [], length, None, Some, is_some, refl, sym, ap, subst, ◌∙◌}
 use Rattle.std.proofs.lemmas.List.{get_or-set_same, get_or_push, length-map}
 use base.Stored.{Coded}
 use Rattle.seize_machine.proofs.Facts.{Step}
@@ -16,7 +16,7 @@ use Rattle.seize_machine.specs.declared.machine.event.Answer.{Answer}
 use Rattle.seize_model.specs.declared.kind.Kind.TheVariants.{Registered}
 use Rattle.seize_model.specs.Waiting.Attempt.{StateAndGone, attempt, attempt_if_full}
 use Rattle.seize_model.specs.Waiting.Calls.{least_unused, with_number_in_use}
-use Rattle.seize_model.specs.Waiting.State.{ModelState, model_slot}
+use Rattle.seize_model.specs.Waiting.State.{ModelState}
 use Rattle.seize_book.specs.Book.{after}
 use Rattle.seize_book.specs.Homesteads.{state_seen}
 use Rattle.seize_book.specs.Passes.{IsSamePass}
@@ -24,12 +24,11 @@ use Rattle.seize_book.specs.Slots.{active_of, slot_number, slot_of}
 use Rattle.seize_book.specs.Tokens.{IsSole, Name, start}
 use Rattle.seize_book.specs.declared.book.pass.Pass.{Pass}
 use Rattle.seize_book.proofs.Facts.{same_twice}
-use Rattle.seize_words.specs.Joined.{words_book}
 use Rattle.seize_words.specs.declared.words.Words.{Words}
 use Rattle.seize_calls.specs.Aparts.{without_puts}
 use Rattle.seize_calls.specs.Furthers.{further_in}
 use Rattle.seize_calls.specs.Handing.{Had, IsServed}
-use Rattle.seize_calls.specs.Slots.{IsInUse, IsInactive, IsOfList, IsOfWords, IsPassOf, IsSlotOf, IsToAttempt, SlotLooks, SlotResumes, SlotTakes, seen_book, its_number}
+use Rattle.seize_calls.specs.Slots.{IsInUse, IsInactive, IsOfWords, IsPassOf, IsToAttempt, SlotLooks, SlotResumes, seen_book, its_number}
 use Rattle.seize_calls.specs.declared.further.Further.{Further}
 use Rattle.seize_calls.specs.declared.slot.Slot.{Slot}
 use Rattle.seize_calls.proofs.Current.{looked_active, shown}
@@ -43,8 +42,7 @@ use Rattle.seize_alone.proofs.Singles.{takes_held}
 use Rattle.seize_alone.proofs.Slots.{slot_takes_full}
 use Rattle.seize_parts.specs.Aparts.{Fits, Goes, WaitsBehind}
 use Rattle.seize_parts.specs.Numbers.{TookAgain}
-use Rattle.seize_parts.specs.Places.{IsUnmoved}
-use Rattle.seize_parts.specs.Sweeps.{IsLedBy, IsOff, KeepsActive, KeepsIdle, KeepsOn}
+use Rattle.seize_parts.specs.Sweeps.{IsLedBy, KeepsActive, KeepsIdle, KeepsOn}
 use Rattle.seize_parts.specs.Told.{HasTold}
 use Rattle.seize_parts.proofs.Called.{legal_then}
 use Rattle.seize_parts.proofs.Going.{waits_as, waits_none}

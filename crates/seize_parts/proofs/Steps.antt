@@ -6,7 +6,7 @@ use base.Stored.{Gv}
 use mathlib.Core.List.{IsPrefix}
 use Rattle.seize_machine.specs.Machine.Event.{AddCount, Begin, Detach, Enter, Event, ExchangeLink, Give, Hand, Insert, Put, ReadHead, ReadLink, Return, SubCount, SwapOut, Take}
 use Rattle.seize_machine.specs.declared.machine.event.Answer.{Answer}
-use Rattle.seize_machine.specs.declared.machine.event.Answer.TheVariants.{Count}
+use Rattle.seize_machine.specs.declared.machine.event.Answer.TheVariants.{Count, Done, Handed, Head as Seen, Illegal, Link}
 use Rattle.seize_book.specs.Adding.{private}
 use Rattle.seize_book.specs.Entry.{Deed, Entry, maker}
 use Rattle.seize_book.specs.Kept.{AllTold, IsTold, SaysKept}
@@ -86,6 +86,10 @@ pub any_put : (final : List Entry) (had : Had) → AllOf (any_puts final).Is had
 unfolding any_puts
 any_put final [] = tt
 any_put final (one ∷ had) = (tt, any_put final had)
+
+-- where it had nothing, nothing was handed
+pub no_puts : (final : List Entry) → Gives (λ _ _. ⊥) final
+no_puts final = record { Is = λ _. ⊥; so = λ h one lent names words is told said. is }
 
 -- What the list says of blocks that were put: each hand that a pass made stands there.
 
@@ -360,3 +364,30 @@ held_one IsPut s (ExchangeLink k l exchange) answer is none = is
 pub held_back : (IsPut : ℕ → List ℕ → Type 0) (s : ℕ) (steps : List (Event × Answer)) → AreStepsOf IsPut s steps → HandsNone steps → AreStepsOf (λ _ _. ⊥) s steps
 held_back IsPut s [] are none = tt
 held_back IsPut s (step ∷ steps) are none = (held_one IsPut s step.0 step.1 are.0 none.0, held_back IsPut s steps are.1 none.1)
+
+-- and where none hands anything, each is such a step, whatever might be put
+any_one : (IsPut : ℕ → List ℕ → Type 0) (s : ℕ) (event : Event) (answer : Answer) → IsStepOf (λ _ _. ⊥) s (event, answer) → IsStepOf IsPut s (event, answer)
+any_one IsPut s (Put k) answer is = is
+any_one IsPut s (ReadHead k n) answer is = is
+any_one IsPut s (Detach k) answer is = is
+any_one IsPut s (Insert k n end) answer is = is
+any_one IsPut s (AddCount k) answer is = is
+any_one IsPut s (SwapOut k) answer is = is
+any_one IsPut s (SubCount k) answer is = is
+any_one IsPut s (Hand k puts) (Handed v) is = absurd is.1
+any_one IsPut s (Hand k puts) Done is = is
+any_one IsPut s (Hand k puts) (Seen on) is = is
+any_one IsPut s (Hand k puts) (Count n) is = is
+any_one IsPut s (Hand k puts) (Link held) is = is
+any_one IsPut s (Hand k puts) Illegal is = is
+any_one IsPut s (Take k) answer is = is
+any_one IsPut s (Give k) answer is = is
+any_one IsPut s (Enter k) answer is = is
+any_one IsPut s (Begin k job) answer is = is
+any_one IsPut s (Return k) answer is = is
+any_one IsPut s (ReadLink k l) answer is = is
+any_one IsPut s (ExchangeLink k l exchange) answer is = is
+
+pub any_steps : (IsPut : ℕ → List ℕ → Type 0) (s : ℕ) (steps : List (Event × Answer)) → AreStepsOf (λ _ _. ⊥) s steps → AreStepsOf IsPut s steps
+any_steps IsPut s [] are = tt
+any_steps IsPut s (step ∷ steps) are = (any_one IsPut s step.0 step.1 are.0, any_steps IsPut s steps are.1)

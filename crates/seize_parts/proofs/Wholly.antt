@@ -36,7 +36,7 @@ use Rattle.seize_calls.proofs.Leaving.{left_made}
 use Rattle.seize_parts.specs.Makes.{AreStepsOf, Defers, MakesCall, MakesNone, MakesOne, MakesWhole, made_with, whole_call}
 use Rattle.seize_parts.proofs.Made.{as_made, key_begins, key_takes, made_grew, none_prepared, none_then, then_none, undivided_after}
 use Rattle.seize_parts.proofs.Own.{MadeAll, own_undivided, undivided_call}
-use Rattle.seize_parts.proofs.Steps.{AllHad, Gives, Goes, HandSo, HandsNone, Runs, goes_drained, goes_round, goes_settled, goes_then, had_so, hands_none_append, held_back, steps_of_append, walk_said, walk_steps}
+use Rattle.seize_parts.proofs.Steps.{AllHad, Gives, Goes, HandSo, HandsNone, Runs, any_steps, goes_drained, goes_round, goes_settled, goes_then, had_so, hands_none_append, held_back, steps_of_append, walk_said, walk_steps}
 
 -- a call, when no event was made before it
 pub call_after : {IsPut : Pass → ℕ → List ℕ → Type 0} (s t : ℕ) (job : Job) (pass ready pass' : Pass) → s ≡ t → MakesNone pass ready → MakesCall IsPut s job ready pass' → MakesCall IsPut t job pass pass'
@@ -270,3 +270,6 @@ module _ (IsPut : Pass → ℕ → List ℕ → Type 0) (pass' : Pass) (gives : 
 -- A call in which nothing was handed.
 pub held_whole : {IsPut : Pass → ℕ → List ℕ → Type 0} {active : Bool} {s : ℕ} {job : Job} {p q : Pass} → Whole IsPut active s (Begin s job) p q → active ≡ true → Defers s job p q
 held_whole {IsPut} {active} {s} {job} {p} {q} call on = record { steps = call.0.steps; its = held_back (IsPut q) s call.0.steps call.0.its (call.1 on); made = call.0.made; undivided = call.0.undivided }
+
+pub any_reclaimer : (IsPut : Pass → ℕ → List ℕ → Type 0) {s : ℕ} {job : Job} {p q : Pass} → Defers s job p q → MakesCall IsPut s job p q
+any_reclaimer IsPut {s} {job} {p} {q} call = record { steps = call.steps; its = any_steps (IsPut q) s call.steps call.its; made = call.made; undivided = call.undivided }

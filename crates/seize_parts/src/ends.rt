@@ -17,7 +17,7 @@ use seize_words::book::Permit;
 use std::marker::{Model, PhantomData};
 
 /// Which values went to the reclaimer. It has no bytes.
-pub(crate) struct Ends {
+pub struct Ends {
     marker: PhantomData<()>,
     /// Of each of them the word that was kept of it, its code, and what was put with it, the oldest first. It is there for clauses alone.
     pub(crate) ghost had: { Had } by { had_coded },
@@ -42,7 +42,7 @@ impl Ends {
     ghost use Rattle.seize_calls.specs.Furthers.{further_in};
 
     /// None did.
-    pub(crate) fn new() -> Ends
+    pub fn new() -> Ends
         ensures { result.had ≡ [] }
     {
         Ends {
@@ -63,7 +63,7 @@ impl Ends {
 
 /// Gives each value to the collector's reclaimer, with the word that was kept of it: its kind.
 #[derive(Drop)]
-pub(crate) struct Forwards<'a, T: Drop, R: Reclaim<T>> {
+pub struct Forwards<'a, T: Drop, R: Reclaim<T>> {
     pub(crate) ender: &'a Ender<T, R>,
     /// What it had.
     pub(crate) ends: Ends,
@@ -73,7 +73,7 @@ impl<'a, T: Drop, R: Reclaim<T>> Forwards<'a, T, R> {
     ghost use Rattle.std.specs.Prelude.{◌≡◌};
 
     /// It has had none.
-    pub(crate) fn new(ender: &'a Ender<T, R>) -> Forwards<'a, T, R>
+    pub fn new(ender: &'a Ender<T, R>) -> Forwards<'a, T, R>
         ensures { (result.ends.had ≡ []) × (result.ender.now ≡ ender.now) }
     {
         Forwards {

@@ -17,7 +17,6 @@ mod parting;
 pub mod reclaiming;
 mod recovering;
 pub mod resting;
-pub mod taking;
 
 use crate::ender::Ender;
 use crate::ends::Forwards;
@@ -54,7 +53,7 @@ pub struct Numbers<T: Drop> {
     /// The shelves of all slots made so far, and perhaps that of the next one.
     shelves: Shelves<T>,
     /// The list of events.
-    book: Seen,
+    pub book: Seen,
     ghost shelved: { shelves.book.name.family ≡ book.name.family },
 }
 

@@ -1,5 +1,5 @@
 //! What the calls of guards change: a slot, how many guards it has, and what is left of the activation that these share. It lies in its
-//! place, under the lock of a registration or of an owned guard, and each call is a work there (`works`).
+//! place, under the lock of a registration or of an owned guard. Each call is a work there (`works` of `seize_guards`).
 ghost use Rattle.std.specs.Prelude.{◌≡◌};
 ghost use Rattle.seize_parts.specs.Reservations.{IsReservation, its_label};
 
@@ -35,7 +35,7 @@ impl<T> Steady for Reservation<T> {
 }
 
 impl<T: Drop> Reservation<T> {
-    ghost use Rattle.std.specs.Prelude.{◌<◌, IfNone, IfSome};
+    ghost use Rattle.std.specs.Prelude.{◌+◌, ◌<◌, IfNone, IfSome};
     ghost use Rattle.seize_machine.specs.Machine.Event.{Enter};
     ghost use Rattle.seize_machine.specs.declared.machine.event.Answer.{Answer};
     ghost use Rattle.seize_machine.specs.declared.machine.event.Answer.TheVariants.{Done};
@@ -74,6 +74,7 @@ impl<T: Drop> Reservation<T> {
         requires first { (self.old.guards ≡ 0) × (0 < self.old.most) }
         ensures follows { KeepsPlace self.old self.new }
         ensures unit { IsUnit (words_book words.now) (its_number self.old.slot) result.0 result.1 }
+        ensures guards { self.new.guards ≡ 1 }
         ensures enters { MakesOne pass.old pass.new (Enter (its_number self.old.slot)) Done }
         ensures alone { IsSole pass.old.id → (answer : Answer) × MakesAlone pass.old pass.new (Enter (its_number self.old.slot)) answer }
     {
@@ -86,10 +87,11 @@ impl<T: Drop> Reservation<T> {
 
     /// One guard more beside others. No event is made; the pass learns that the slot is active.
     #[inline(always)]
-    pub(crate) fn enter_beside(&mut self, words: &Words<T>, pass: &mut Pass) -> (Activation, Seen)
+    pub fn enter_beside(&mut self, words: &Words<T>, pass: &mut Pass) -> (Activation, Seen)
         requires of { IsReservation self.old × IsReservationOf words.now self.old × IsPassOf words.now pass.old }
         requires beside { (0 < self.old.guards) × (self.old.guards < self.old.most) }
         ensures follows { KeepsPlace self.old self.new }
+        ensures guards { self.new.guards ≡ self.old.guards + 1 }
         ensures unit { IsUnit (words_book words.now) (its_number self.old.slot) result.0 result.1 }
         ensures active { StaysActive (its_number self.old.slot) pass.old pass.new }
     {

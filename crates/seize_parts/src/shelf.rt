@@ -13,7 +13,7 @@ ghost use Rattle.seize_parts.specs.Reservations.{IsReservation, IsUnit};
 mod forgotten;
 
 use crate::reservation::Reservation;
-pub(crate) use forgotten::Forgotten;
+pub use forgotten::Forgotten;
 use seize_cells::{Lock, LockWork};
 use seize_content::Steady;
 use seize_words::activation::Activation;
@@ -184,7 +184,7 @@ impl<T: Drop> Shelf<T> {
     }
 
     /// Lays this there, where nothing lies. It takes no memory and waits for nobody: see `lay`.
-    pub(crate) fn put(&self, reservation: Option<Reservation<T>>, forgotten: Option<Forgotten>)
+    pub fn put(&self, reservation: Option<Reservation<T>>, forgotten: Option<Forgotten>)
         requires { IfSome reservation (IsLaidFor self.now) × IfSome forgotten (IsForgottenOf self.now) }
     {
         drop(

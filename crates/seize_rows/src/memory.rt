@@ -2,10 +2,12 @@
 //! `tools/memory` runs these tests with each request after that refused.
 ghost use Rattle.std.specs.Prelude.{◌≡◌, ◌<◌, IfOk};
 ghost use Rattle.seize.specs.Collectors.{IsBlockOf, IsPassOf, its_links, its_words};
-ghost use Rattle.seize.specs.Guards.{guard_collector};
+ghost use Rattle.seize.specs.Guards.{guard_collector, owned_collector};
 ghost use Rattle.seize.specs.Registrations.{registered_in};
 
-use seize::{Collector, Guard, IdSource, LocalGuard, Owned, Pass, Refusal, Registration};
+use seize::{
+    Collector, Guard, IdSource, LocalGuard, Owned, OwnedGuard, Pass, Refusal, Registration,
+};
 use seize_test_kit::sign::give_sign;
 use seize_test_kit::values::{Counted, ended};
 use std::alloc::Global;
@@ -254,5 +256,65 @@ fn slots_hand_on_without_memory(rt: HostRuntime) -> Result<(), Fail> {
     assert_eq!(rt; came, [0, 2, 2, 4]);
     assert!(rt; collector.reclaim_all(&mut ()));
     assert_eq!(rt; ended(&ends), 4);
+    Ok(())
+}
+
+// Reads link 0, takes out what it read by a weak exchange, and retires that. It says whether the exchange was won.
+fn take_out_weakly<'a>(rt: &impl Wait, guard: &OwnedGuard<'_, Counted<'a>>, pass: &mut Pass) -> bool
+    requires of { IsPassOf (owned_collector guard.now) pass.old × (0 < its_links (owned_collector guard.now)) }
+    ensures { IsPassOf (owned_collector guard.now) pass.new }
+{
+    let core = guard.core();
+    let found = core.protect(0, pass);
+    match core.compare_exchange_weak(0, found.as_ref(), None, pass) {
+        Ok(Some(old)) => {
+            guard.defer_retire(rt, pass, old);
+            true
+        }
+        Ok(None) => false,
+        Err(_) => false,
+    }
+}
+
+// An owned guard puts the block in by one pass, and takes it out by another that meets this one. It flushes, refreshes and leaves. It says
+// how many values had ended when it had retired, when it had flushed, and when it had refreshed; and whether it took the block out.
+fn use_owned<'a>(
+    rt: &(impl Wait + Abort),
+    alloc: Global,
+    collector: &Collector<Counted<'a>>,
+    block: Owned<Counted<'a>>,
+    ends: &'a AtomicU64,
+) -> ([u64; 3], bool)
+    requires links { its_links (its_words collector.now) ≡ 10 }
+    requires block { IsBlockOf (its_words collector.now) block }
+{
+    let mut pass = collector.pass();
+    let mut other = collector.pass();
+    let mut guard = collector.enter_owned(rt, &mut pass).expect(rt, "memory");
+    assert!(rt; give_sign(alloc).is_ok());
+    if let Some(old) = guard.swap(0, Some(block), &mut pass) {
+        guard.defer_retire(rt, &mut pass, old);
+    }
+    pass.meet(&mut other);
+    let taken = take_out_weakly(rt, &guard, &mut other);
+    let retired = ended(ends);
+    guard.flush(rt, &mut other);
+    let flushed = ended(ends);
+    guard.refresh(rt, &mut other);
+    let refreshed = ended(ends);
+    guard.leave(rt, &mut other);
+    ([retired, flushed, refreshed], taken)
+}
+
+// The calls of an owned guard ask for no memory.
+#[test]
+fn owned_guards_ask_for_no_memory(rt: HostRuntime) -> Result<(), Fail> {
+    let ends = AtomicU64::new(0);
+    let collector = collector(rt.alloc())?;
+    let block = new(&collector, &ends)?;
+    let came = use_owned(&rt, rt.alloc(), &collector, block, &ends);
+    assert_eq!(rt; came, ([0, 0, 1], true));
+    drop(collector);
+    assert_eq!(rt; ended(&ends), 1);
     Ok(())
 }

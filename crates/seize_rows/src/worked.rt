@@ -269,13 +269,13 @@ fn read_by_another(guard: &LocalGuard<'_, '_, u64>, pass: &mut Pass) -> Option<u
 
 // Puts 1 and then 2 into the link by one pass, and reads it by that, and by another one that meets it.
 fn read_by_two(rt: &(impl Wait + Abort), collector: &Collector<u64>)
-    requires { 0 < its_links (its_words collector.now) }
+    requires { its_links (its_words collector.now) ≡ 2 }
 {
     let mut pass = collector.pass();
     let registration = collector.register(rt, &mut pass).expect(rt, "memory");
     let guard = registration.enter(&mut pass).expect(rt, "a guard");
-    assert_eq!(rt; meeting::put(rt, &guard, 1, &mut pass), Ok(None));
-    assert_eq!(rt; meeting::put(rt, &guard, 2, &mut pass), Ok(Some(1)));
+    assert_eq!(rt; meeting::put(rt, &guard, 0, 1, &mut pass), Ok(None));
+    assert_eq!(rt; meeting::put(rt, &guard, 0, 2, &mut pass), Ok(Some(1)));
     let found = guard.protect(0, &mut pass).map(|shared| *shared);
     assert_eq!(rt; found, Some(2));
     assert_eq!(rt; read_by_another(&guard, &mut pass), Some(2));

@@ -1,5 +1,5 @@
 //! The program over bytes in memory: what it prints, what it says on errors, and its status.
-use seize_script::{PutInside, run_program};
+use seize_script::{LONGEST_SCRIPT, PutInside, run_program};
 use std::alloc::{AllocError, Global};
 use std::process::Abort;
 use std::test::Fail;

@@ -94,6 +94,21 @@ fn numbers_are_used_again(rt: HostRuntime) -> Result<(), Fail> {
     Ok(())
 }
 
+// The size of a request for memory by which a test says that it is set up. tools/memory knows it too.
+const SIGN: usize = 4_099;
+
+// A number goes back, and is taken again, without memory.
+#[test]
+fn numbers_go_back_without_memory(rt: HostRuntime) -> Result<(), Fail> {
+    let mut numbers = Numbers::new(rt.alloc());
+    let first = numbers.take()?;
+    let sign: Vec<u8> = Vec::with_capacity(rt.alloc(), SIGN)?;
+    drop(sign);
+    numbers.give(first);
+    assert_eq!(rt; (first, numbers.take()?), (0, 0));
+    Ok(())
+}
+
 // Whether numbers other than 0, 1, 2 and the greatest of the type are in use.
 fn others(numbers: &Numbers) -> (bool, bool, bool, bool) {
     (

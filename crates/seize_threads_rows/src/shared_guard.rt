@@ -165,3 +165,24 @@ fn four_threads_add_by_one_guard(rt: HostRuntime) -> Result<(), Fail> {
     assert_eq!(rt; ended(marks.as_slice()), (1 + 4 * TURNS, 0));
     Ok(())
 }
+
+// Four threads do so by a guard that is forgotten then. When all is reclaimed, its slot leaves: all ends but the block in the link, and
+// each once.
+#[test]
+fn a_guard_that_threads_shared_is_forgotten(rt: HostRuntime) -> Result<(), Fail> {
+    let marks = marks(rt.alloc(), 1 + 4 * TURNS)?;
+    let mut collector = collector(rt.alloc())?;
+    put(&rt, &collector, marks.as_slice())?;
+    let guard = collector
+        .enter_owned(&rt, &mut collector.pass())
+        .expect(&rt, "memory");
+    let tried = four(&rt, &guard, marks.as_slice());
+    guard.forget();
+    assert_eq!(rt; tried?.won, 4 * TURNS);
+    assert_eq!(rt; ended(marks.as_slice()), (0, 0));
+    assert!(rt; collector.reclaim_all(&mut ()));
+    assert_eq!(rt; ended(marks.as_slice()), (4 * TURNS, 0));
+    drop(collector);
+    assert_eq!(rt; ended(marks.as_slice()), (1 + 4 * TURNS, 0));
+    Ok(())
+}

@@ -5,6 +5,7 @@ ghost use Rattle.seize_uses.specs.Nests.{nest_owners};
 ghost use base.Stored.{coded_unit};
 
 use seize::{Collector, Guard, IdSource, Owned, Refusal, Watch};
+use seize_test_kit::sign::give_sign;
 use seize_uses::nest::{Nest, PutInside, around};
 use std::alloc::{AllocError, Global};
 use std::sync::Wait;
@@ -150,18 +151,40 @@ fn each_value_ends_once_and_in_order(rt: HostRuntime) -> Result<(), Fail> {
     Ok(())
 }
 
-// Where nobody is active, all are gone in the call that retires the first.
+// A registration gives the sign, retires the block, and ends.
+fn retire_after_sign<W: Wait>(
+    rt: &W,
+    alloc: Global,
+    collector: &Nests<'_>,
+    block: Block,
+) -> Result<(), Refusal>
+    requires { BelongsTo nest_owners (its_words collector.now) block }
+{
+    let mut pass = collector.pass();
+    let registration = collector.register(rt, &mut pass)?;
+    let block = collector.unlinked(block);
+    let given = give_sign(alloc);
+    registration.retire(rt, &mut pass, block);
+    registration.end(rt, &mut pass);
+    given
+}
+
+// Where nobody is active, all are gone in the call that retires the first, in their order. It asks for no memory.
 #[test]
 fn a_long_chain_ends_in_one_call(rt: HostRuntime) -> Result<(), Fail> {
     let count = AtomicU64::new(0);
+    let places = places(rt.alloc(), MANY + 1)?;
     let by = PutInside {
         ended: &count,
-        order: &[],
+        order: places.as_slice(),
     };
     let collector = collector(rt.alloc(), 1, by)?;
     let first = chain(rt.alloc(), &collector)?;
-    retire(&rt, &collector, first)?;
+    retire_after_sign(&rt, rt.alloc(), &collector, first)?;
     assert_eq!(rt; ended(by), MANY);
+    for number in 1..MANY + 1 {
+        assert_eq!(rt; order(by, number), number);
+    }
     Ok(())
 }
 

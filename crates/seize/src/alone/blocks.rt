@@ -8,8 +8,8 @@ use crate::alone::hands::Hands;
 use crate::alone::links::exchange_at;
 use crate::alone::{Alone, Codes};
 use crate::block::{Owned, Shared, Taken};
+use seize_guards::block::{add_block, show};
 use seize_parts::alone::place::{Place, Unit};
-use seize_parts::block::{add_block, show};
 use seize_parts::reclaim::Reclaim;
 use seize_table::Refusal;
 use seize_words::lasting::Lasting;
@@ -37,7 +37,7 @@ impl<T: Drop, R: Reclaim<T>> Alone<T, R> {
     ghost use Rattle.seize_model.specs.Waiting.Calls as calls;
     ghost use Rattle.seize.specs.Alones.{IsSame, ListGrows, name_at};
     ghost use Rattle.seize_parts.specs.Blocks.{Belongs};
-    ghost use Rattle.seize_parts.specs.Links.{found_name, shared_book, shared_value};
+    ghost use Rattle.seize_guards.specs.Links.{found_name, shared_book, shared_value};
     ghost use Rattle.seize.specs.Takens.{IsTakenOf, taken_content};
     ghost use Rattle.seize.specs.Looks.{with_link};
 

@@ -16,8 +16,8 @@ ghost use Rattle.seize_parts.specs.Blocks.{Belongs, IsNamed, LooseComesOut};
 ghost use Rattle.seize_parts.specs.Enders.{IsEnderOf};
 
 use seize_calls::slot::Loose;
+use seize_guards::block::{Owned, name};
 use seize_parts::alone::place::Unit;
-use seize_parts::block::{Owned, name};
 use seize_parts::ender::Ender;
 use seize_parts::reclaim::Reclaim;
 use seize_words::book::Pass;

@@ -4,7 +4,7 @@ ghost use base.Fml.{ftrue};
 ghost use Rattle.seize_book.specs.Others.{MayRetire};
 ghost use Rattle.seize_calls.specs.Slots.{IsReadable, its_value};
 ghost use Rattle.seize_words.specs.Chunks.{IsLentAs};
-ghost use Rattle.seize_parts.specs.Loose.{may_retire-prop};
+ghost use Rattle.seize_guards.specs.Loose.{may_retire-prop};
 
 use crate::block::Owned;
 use seize_calls::slot::Loose;

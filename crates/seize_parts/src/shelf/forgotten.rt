@@ -6,7 +6,7 @@ use seize_words::book::{Pass, Seen};
 
 /// The units of guards of one slot that were forgotten.
 #[derive(Drop)]
-pub(crate) struct Forgotten {
+pub struct Forgotten {
     /// The slot's number.
     pub(crate) number: usize,
     /// The units, of one activation.
@@ -25,7 +25,7 @@ impl Forgotten {
     ghost use Rattle.seize_parts.specs.Reservations.{IsUnit};
 
     /// The unit of one guard.
-    pub(crate) fn one(number: usize, unit: Activation, seen: Seen) -> Forgotten
+    pub fn one(number: usize, unit: Activation, seen: Seen) -> Forgotten
         requires { IsUnit seen.name number unit seen }
         ensures { IsForgottenOf seen.name.family result }
     {

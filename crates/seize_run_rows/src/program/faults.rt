@@ -19,21 +19,40 @@ impl Read for FailingReader {
     }
 }
 
-/// Takes so many writes, and then fails.
+/// How a writer fails.
+#[derive(Clone, Copy)]
+enum Fault {
+    /// It refuses a write.
+    Refuses,
+    /// It takes nothing of a write, and says so.
+    TakesNone,
+    /// It takes all writes, and refuses the flush.
+    RefusesFlush,
+}
+
+/// Takes so many writes, of each so many bytes at most, and then fails.
 #[derive(Drop)]
 struct FailingWriter<'a> {
     left: usize,
+    most: usize,
+    fault: Fault,
     written: &'a mut Vec<u8>,
 }
 
 impl Write for FailingWriter<'_> {
     fn write(&mut self, buf: &[u8]) -> io::Result<usize> {
         if self.left == 0 {
-            return Err(io::Error::from(ErrorKind::Other));
+            match self.fault {
+                Fault::Refuses => return Err(io::Error::from(ErrorKind::Other)),
+                Fault::TakesNone => return Ok(0),
+                Fault::RefusesFlush => {}
+            }
+        } else {
+            self.left -= 1;
         }
-        self.left -= 1;
-        self.written.extend_from_slice(buf)?;
-        Ok(buf.len())
+        let many = buf.len().min(self.most);
+        self.written.extend_from_slice(&buf[..many])?;
+        Ok(many)
     }
 
     fn flush(&mut self) -> io::Result<()> {
@@ -135,38 +154,90 @@ fn a_reader_that_is_interrupted(rt: HostRuntime) -> Result<(), Fail> {
     Ok(())
 }
 
-/// Whatever write fails, what was written is a beginning of the whole.
-#[test]
-fn each_write_that_fails(rt: HostRuntime) -> Result<(), Fail> {
-    for name in ["single", "further", "reuse", "refused", "links"] {
-        let whole = given(rt.alloc(), &["row", name], b"").output;
-        for left in 0..200usize {
-            let mut written = Vec::new(rt.alloc());
-            let status = with_writes(&rt, name, left, &mut written)?;
-            assert!(rt; whole.starts_with(written.as_slice()));
-            if status == 0 {
-                assert_eq!(rt; written.len(), whole.len());
-                break;
-            }
-            assert_eq!(rt; status, 5);
-            assert!(rt; left < 199);
+/// Gives so many line ends, and then fails.
+#[derive(Drop)]
+struct LongReader {
+    left: usize,
+}
+
+impl Read for LongReader {
+    fn read(&mut self, buf: &mut [u8]) -> io::Result<usize> {
+        if self.left == 0 {
+            return Err(io::Error::from(ErrorKind::Other));
         }
+        let many = buf.len().min(self.left);
+        self.left -= many;
+        buf[..many].fill(b'\n');
+        Ok(many)
+    }
+}
+
+/// A reader that fails behind the last byte that a script may have fails. Behind one byte more it isn't asked any more.
+#[test]
+fn a_reader_that_fails_behind_the_longest_script(rt: HostRuntime) -> Result<(), Fail> {
+    for (left, wanted, said) in [
+        (LONGEST_SCRIPT, 4, "cannot read"),
+        (LONGEST_SCRIPT + 1, 2, "script too long"),
+    ] {
+        let mut output = Vec::new(rt.alloc());
+        let mut errors = Vec::new(rt.alloc());
+        let status = run_program(
+            rt.alloc(),
+            &["script"],
+            LongReader { left },
+            &mut output,
+            &mut errors,
+            PutInside,
+        );
+        assert_eq!(rt; status, wanted);
+        assert_eq!(rt; output.as_slice(), b"".as_slice());
+        assert_eq!(rt; errors.as_slice(), lines(rt.alloc(), said)?.as_slice());
     }
     Ok(())
 }
 
-fn with_writes(
+/// Writes the row's output so, with each number of writes from none on, until that is enough. What was written is a beginning of the whole.
+fn fail_each_write(
     rt: &(impl AllocGlobal + Abort),
     name: &str,
-    left: usize,
-    written: &mut Vec<u8>,
+    most: usize,
+    fault: Fault,
+) -> Result<(), Fail> {
+    let whole = given(rt.alloc(), &["row", name], b"").output;
+    for left in 0..2_000usize {
+        let mut written = Vec::new(rt.alloc());
+        let writer = FailingWriter {
+            left,
+            most,
+            fault,
+            written: &mut written,
+        };
+        let status = with_writer(rt, name, writer)?;
+        assert!(rt; whole.starts_with(written.as_slice()));
+        if status == 0 {
+            assert_eq!(rt; written.len(), whole.len());
+            return Ok(());
+        }
+        assert_eq!(rt; status, 5);
+        if let Fault::RefusesFlush = fault {
+            assert_eq!(rt; written.len(), whole.len());
+        }
+    }
+    assert!(rt; false);
+    Ok(())
+}
+
+fn with_writer(
+    rt: &(impl AllocGlobal + Abort),
+    name: &str,
+    writer: FailingWriter<'_>,
 ) -> Result<u8, Fail> {
     let mut errors = Vec::new(rt.alloc());
     let status = run_program(
         rt.alloc(),
         &["row", name],
         b"".as_slice(),
-        FailingWriter { left, written },
+        writer,
         &mut errors,
         PutInside,
     );
@@ -176,6 +247,29 @@ fn with_writes(
     Ok(status)
 }
 
+/// Each row, with whole writes, of which one is refused.
+#[test]
+fn each_write_that_fails(rt: HostRuntime) -> Result<(), Fail> {
+    for (name, _) in rows::ROWS {
+        fail_each_write(&rt, name, usize::MAX, Fault::Refuses)?;
+    }
+    for name in ["flushes", "fives"] {
+        fail_each_write(&rt, name, usize::MAX, Fault::Refuses)?;
+    }
+    Ok(())
+}
+
+/// A writer that takes three bytes of each write, and then refuses one, or takes nothing, or refuses the flush alone.
+#[test]
+fn each_write_that_takes_a_part(rt: HostRuntime) -> Result<(), Fail> {
+    for fault in [Fault::Refuses, Fault::TakesNone, Fault::RefusesFlush] {
+        for (name, _) in rows::ROWS {
+            fail_each_write(&rt, name, 3, fault)?;
+        }
+    }
+    Ok(())
+}
+
 /// A fault in saying why is passed over.
 #[test]
 fn errors_that_fail(rt: HostRuntime) -> Result<(), Fail> {
@@ -183,6 +277,8 @@ fn errors_that_fail(rt: HostRuntime) -> Result<(), Fail> {
     let mut written = Vec::new(rt.alloc());
     let errors = FailingWriter {
         left: 0,
+        most: usize::MAX,
+        fault: Fault::Refuses,
         written: &mut written,
     };
     let status = run_program(

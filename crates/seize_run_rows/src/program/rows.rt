@@ -3,7 +3,7 @@ use super::*;
 use std::io::Write;
 
 /// Each row with what it prints; those with numbered values have tests of their own.
-const ROWS: [(&str, &str); 17] = [
+pub(super) const ROWS: [(&str, &str); 17] = [
     ("single", "slot 0; --; gone a; gone b"),
     (
         "reentrant",

@@ -1,4 +1,4 @@
-use Rattle.std.proofs.Common.{◌<◌, ◌-◌, ◌≡◌, arith, refl, sym, subst}
+use Rattle.std.proofs.Common.{◌<◌, ◌≡◌, arith, refl, sym, subst}
 use Rattle.seize_words.specs.Joined.{words_book}
 use Rattle.seize_parts.specs.Enders.{IsEnderIn}
 use Rattle.seize_parts.specs.Told.{HasTold}

@@ -1,4 +1,4 @@
-use Rattle.std.proofs.Common.{◌≡◌, ℕ, Option, None, Some, true, false, is_some, get_or, slice_set, refl, sym, ap, subst, ◌∙◌, arith}
+use Rattle.std.proofs.Common.{◌≡◌, ℕ, None, true, false, is_some, get_or, slice_set, refl, sym, ap, subst, ◌∙◌, arith}
 use Rattle.std.specs.Option.{is_none}
 use Rattle.std.specs.List.{count_by}
 use Rattle.std.proofs.lemmas.List.{get_or_default}
@@ -6,7 +6,7 @@ use Rattle.seize_machine.specs.Machine.Event.{Take}
 use Rattle.seize_machine.specs.declared.machine.event.Answer.TheVariants.{Done}
 use Rattle.seize_machine.specs.declared.machine.event.Answer.{Answer}
 use Rattle.seize_book.specs.Tokens.{IsSole}
-use Rattle.seize_calls.specs.Slots.{IsOfList, IsRestIn, its_number}
+use Rattle.seize_calls.specs.Slots.{IsOfList, IsRestIn}
 use Rattle.seize_alone.proofs.Ready.{entry_alone}
 use Rattle.seize_alone.specs.Events.{MakesAlone}
 use Rattle.seize_parts.specs.Makes.{MakesOne}

@@ -1,4 +1,4 @@
-use Rattle.std.proofs.Common.{◌≡◌, ℕ, ◌<◌, List, [], None, Some, get_or}
+use Rattle.std.proofs.Common.{◌≡◌, ℕ, ◌<◌, [], None, Some, get_or}
 use Rattle.std.specs.List.{range_with_len}
 use Rattle.seize_book.specs.Tokens.{IsSole}
 use Rattle.seize_book.specs.Values.{values_of}

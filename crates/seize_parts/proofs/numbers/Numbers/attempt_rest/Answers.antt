@@ -1,4 +1,4 @@
-use Rattle.std.proofs.Common.{◌≡◌, ◌<◌, ◌==◌, ℕ, Bool, List, Option, Some, true, false, length, slice_set, refl, sym, ap, subst, ◌∙◌, arith}
+use Rattle.std.proofs.Common.{◌≡◌, ◌<◌, ◌==◌, ℕ, List, Option, Some, true, false, length, slice_set, refl, sym, ap, subst, ◌∙◌, arith}
 use Rattle.seize_machine.specs.Machine.Frames.{used}
 use Rattle.seize_machine.specs.Machine.State.{are_distinct, linked_values}
 use Rattle.seize_model.specs.declared.kind.Kind.TheVariants.{Registered}
@@ -25,7 +25,7 @@ use Rattle.seize_parts.proofs.Leftover.{all_in_use, are_nothing, here_moved, lea
 use Rattle.seize_parts.proofs.Numbered.{first_below, some_same}
 use Rattle.seize_parts.proofs.Outlined.{full_size}
 use Rattle.seize_parts.proofs.Placed.{still_for}
-use Rattle.seize_parts.proofs.Swept.{keeps_looked, keeps_on, keeps_then, looked_pass, still_sole}
+use Rattle.seize_parts.proofs.Swept.{keeps_on, keeps_then, looked_pass, still_sole}
 use Rattle.std.proofs.lemmas.List.{length-set}
 use Rattle.seize_parts.proofs.numbers.Numbers.attempt_rest.Goals as goal
 

@@ -1,4 +1,4 @@
-use Rattle.std.proofs.Common.{◌≡◌, ◌<◌, ℕ, None, Some, false, is_some, get_or, length, refl, sym, ap, subst, slice_set, ◌∙◌, arith}
+use Rattle.std.proofs.Common.{◌<◌, ℕ, None, Some, false, is_some, get_or, length, refl, sym, ap, subst, slice_set, ◌∙◌, arith}
 use Rattle.seize_book.specs.Tokens.{IsSole}
 use Rattle.seize_calls.specs.Slots.{IsRestIn}
 use Rattle.seize_alone.proofs.Ready.{entry_alone}

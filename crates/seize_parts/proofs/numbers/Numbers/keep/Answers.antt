@@ -1,5 +1,4 @@
-use Rattle.std.proofs.Common.{Some, refl, sym, subst, ◌∙◌, arith, ℕ, ◌<◌, length}
-use Rattle.seize_book.specs.declared.book.pass.Pass.{Pass}
+use Rattle.std.proofs.Common.{refl, sym, subst, ◌∙◌, arith, ℕ, ◌<◌, length}
 use Rattle.seize_parts.proofs.Recovered.{found_below, found_numbers}
 use Rattle.seize_parts.proofs.Stilled.{same_pass, still_looked}
 use Rattle.seize_parts.proofs.Swept.{led_none, looked_pass, still_sole}

@@ -1,13 +1,12 @@
 use Rattle.std.proofs.Common.{◌≡◌, ℕ, Option, List, [], ◌∷◌, ◌++◌, length, None, refl, sym, ap, subst, ◌∙◌, arith}
 use Rattle.seize_machine.specs.Machine.Event.{Take}
 use Rattle.seize_book.specs.Tokens.{IsSole}
-use Rattle.seize_calls.specs.declared.slot.Slot.{Slot}
 use Rattle.seize_alone.proofs.Ready.{made_alone}
 use Rattle.seize_alone.specs.Events.{MakesAlone}
 use Rattle.seize_parts.proofs.Made.{makes_slot, none_learned, none_then}
 use Rattle.seize_parts.proofs.Stilled.{alone_from, still_learned}
 use Rattle.seize_parts.proofs.Numbered.{is_full, next_is, none_added, none_pushed, slots_made, slots_still, still_none}
-use Rattle.seize_parts.specs.Numbers.{AreNumbers, AreSlots, KnowsLeast, NoneBelow}
+use Rattle.seize_parts.specs.Numbers.{AreNumbers, KnowsLeast, NoneBelow}
 use Rattle.seize_parts.specs.declared.numbers.Numbers.{Numbers}
 use Rattle.seize_parts.proofs.numbers.Numbers.make.Goals.{then-is_err-via-then-is_err, then-is_err-via-else-is_err+then-is_err-2}
 use Rattle.seize_parts.proofs.numbers.Numbers.make.Goals as goal

@@ -1,4 +1,4 @@
-use Rattle.std.proofs.Common.{None, is_some, length, get_or, refl, sym, ap, ◌∙◌, arith}
+use Rattle.std.proofs.Common.{length, refl, sym, ap, ◌∙◌, arith}
 use Rattle.seize_parts.proofs.Numbered.{slots_new}
 use Rattle.seize_parts.proofs.numbers.Numbers.new.Goals as goal
 

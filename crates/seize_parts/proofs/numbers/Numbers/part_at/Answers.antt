@@ -1,7 +1,6 @@
 use Rattle.std.proofs.Common.{None, get_or, refl, sym, subst, ◌∙◌, arith}
 use Rattle.std.proofs.lemmas.List.{get_or_default}
 use Rattle.seize_model.specs.Waiting.State.{model_slot}
-use Rattle.seize_book.specs.Tokens.{Name}
 use Rattle.seize_book.specs.declared.book.pass.Pass.{Pass}
 use Rattle.seize_calls.specs.Furthers.{further_in}
 use Rattle.seize_calls.specs.Handing.{IsServed}

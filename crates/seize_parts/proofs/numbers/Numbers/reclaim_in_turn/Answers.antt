@@ -1,4 +1,4 @@
-use Rattle.std.proofs.Common.{◌≡◌, ℕ, List, Option, None, is_some, get_or, length, refl, sym, ap, subst, ◌∙◌, arith}
+use Rattle.std.proofs.Common.{List, Option, None, is_some, get_or, length, ap, ◌∙◌, arith}
 use Rattle.std.specs.List.{range_with_len}
 use Rattle.seize_calls.specs.declared.slot.Slot.{Slot}
 use Rattle.seize_alone.specs.Reclaiming.{parts_in_turn}

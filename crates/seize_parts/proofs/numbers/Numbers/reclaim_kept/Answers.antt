@@ -1,14 +1,11 @@
-use Rattle.std.proofs.Common.{◌≡◌, ◌++◌, ℕ, List, [], length, reverse, refl, sym, ap, subst, ◌∙◌, arith}
+use Rattle.std.proofs.Common.{◌++◌, length, reverse, refl, sym, ap, subst, ◌∙◌, arith}
 use Rattle.std.specs.List.{range_with_len}
 use Rattle.std.proofs.lemmas.List.{append-nil}
-use Rattle.seize_model.specs.Waiting.Attempt.{StateAndGone, with_gone}
-use Rattle.seize_model.specs.Waiting.State.{ModelState}
 use Rattle.seize_book.specs.Tokens.{Name}
 use Rattle.seize_calls.specs.Furthers.{further_in}
 use Rattle.seize_calls.specs.Handing.{IsServed}
-use Rattle.seize_alone.specs.Reclaiming.{batches_in_turn, kept_in_turn, numbers_in_turn, rest_in_turn}
+use Rattle.seize_alone.specs.Reclaiming.{batches_in_turn, numbers_in_turn, rest_in_turn}
 use Rattle.seize_alone.proofs.Outlines.{slots_in}
-use Rattle.seize_parts.specs.Aparts.{AreKeptOf, Fits}
 use Rattle.seize_parts.proofs.Going.{fits_then, goes_as, goes_held, goes_then}
 use Rattle.seize_parts.proofs.InUse.{none_below_same, places_here, slots_kept}
 use Rattle.seize_parts.proofs.Keeping.{active_then, gives_goes, idle_then, kept_then, off_before, off_then}

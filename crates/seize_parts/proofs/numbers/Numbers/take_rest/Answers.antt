@@ -1,4 +1,4 @@
-use Rattle.std.proofs.Common.{ℕ, Bool, refl, sym, subst, ◌∙◌}
+use Rattle.std.proofs.Common.{ℕ, Bool, sym, subst, ◌∙◌}
 use Rattle.seize_machine.specs.Machine.Event.{Take}
 use Rattle.seize_book.specs.Tokens.{Name}
 use Rattle.seize_calls.specs.Furthers.{further_in}

@@ -1,0 +1,10 @@
+pub mod Allowing
+pub mod Compared
+pub mod Found
+pub mod Guarded
+pub mod Later
+pub mod LinkSteps
+pub mod Onwards
+pub mod Protected
+pub mod Readable
+pub mod Same

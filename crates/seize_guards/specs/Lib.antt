@@ -1,0 +1,7 @@
+pub mod Collectors
+pub mod Exchanges
+pub mod Guards
+pub mod Links
+pub mod Loose
+pub mod Moments
+pub mod Registrations

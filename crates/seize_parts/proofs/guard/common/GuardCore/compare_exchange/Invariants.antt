@@ -1,6 +1,0 @@
--- What the caller takes the link to hold is what its value says.
-use Rattle.seize_parts.specs.Exchanges.{current_name}
-use Rattle.seize_parts.proofs.guard.common.GuardCore.compare_exchange.Given as goal
-
-abbrev pub ghosts-exchange : goal.ghosts-exchange
-ghosts-exchange a c = record { current = current_name c.current }
