@@ -1,14 +1,18 @@
-//! Calls of one caller that are made again where memory was refused: the second time each serves as if there had been no first one. The
-//! gate refuses one request after another, by `tools/lacking`.
+//! Calls of one caller that are made again where memory was refused: the second time each serves as if there had been no first one.
+//! `tools/lacking seize_alone_rows` refuses one request after another.
+ghost use Rattle.std.specs.Prelude.{◌≡◌, IfOk};
+ghost use Rattle.seize.specs.Alones.{IsSame};
 
 use seize::{Alone, Call, IdSource, Owned, Refusal, Reply};
-use std::alloc::Global;
+use std::alloc::{AllocError, Global};
 use std::collections::VecDeque;
 use std::process::Abort;
 use std::test::*;
 
 // A collector with one link, in one caller's hands.
-fn alone(rt: &impl Abort, alloc: Global, ids: &mut IdSource) -> Result<Alone<u64>, Refusal> {
+fn alone(rt: &impl Abort, alloc: Global, ids: &mut IdSource) -> Result<Alone<u64>, Refusal>
+    ensures { IfOk result (λ made. made.links ≡ 1) }
+{
     match Alone::new(alloc, ids, 1, 1) {
         Ok(alone) => Ok(alone),
         Err(refusal) => {
@@ -19,7 +23,9 @@ fn alone(rt: &impl Abort, alloc: Global, ids: &mut IdSource) -> Result<Alone<u64
 }
 
 // A slot's number.
-fn register(rt: &impl Abort, alone: &mut Alone<u64>) -> Result<usize, Refusal> {
+fn register(rt: &impl Abort, alone: &mut Alone<u64>) -> Result<usize, Refusal>
+    ensures { alone.new.links ≡ alone.old.links }
+{
     match alone.register(&mut ()) {
         Ok(number) => Ok(number),
         Err(refusal) => {
@@ -30,7 +36,9 @@ fn register(rt: &impl Abort, alone: &mut Alone<u64>) -> Result<usize, Refusal> {
 }
 
 // That of an owned slot.
-fn enter_owned(rt: &impl Abort, alone: &mut Alone<u64>) -> Result<usize, Refusal> {
+fn enter_owned(rt: &impl Abort, alone: &mut Alone<u64>) -> Result<usize, Refusal>
+    ensures { alone.new.links ≡ alone.old.links }
+{
     match alone.enter_owned(&mut ()) {
         Ok(number) => Ok(number),
         Err(refusal) => {
@@ -41,7 +49,9 @@ fn enter_owned(rt: &impl Abort, alone: &mut Alone<u64>) -> Result<usize, Refusal
 }
 
 // A block of this value, which comes back from a refusal.
-fn owned(rt: &impl Abort, alone: &mut Alone<u64>, value: u64) -> Result<Owned<u64>, Refusal> {
+fn owned(rt: &impl Abort, alone: &mut Alone<u64>, value: u64) -> Result<Owned<u64>, Refusal>
+    ensures { alone.new.links ≡ alone.old.links }
+{
     let back = match alone.owned(value) {
         Ok(block) => return Ok(block),
         Err((refusal, back)) => {
@@ -53,33 +63,36 @@ fn owned(rt: &impl Abort, alone: &mut Alone<u64>, value: u64) -> Result<Owned<u6
 }
 
 // A list of calls: a slot is taken, and slot 0 enters, reads the link and leaves.
-fn calls(rt: &impl Abort, alloc: Global) -> Result<VecDeque<Call<u64>>, Fail> {
-    let mut calls = VecDeque::new(alloc);
-    if calls.reserve(5).is_err() {
-        calls.reserve(5)?;
-    }
-    calls.push_back(Call::Register)?;
-    calls.push_back(Call::Enter(0))?;
-    calls.push_back(Call::Protect(0, 0))?;
-    calls.push_back(Call::Leave(0))?;
-    assert_eq!(rt; calls.len(), 4);
-    Ok(calls)
+fn run_once(alloc: Global, alone: &mut Alone<u64>) -> Result<Vec<Reply<u64>>, Refusal>
+    requires { alone.old.links ≡ 1 }
+    ensures { IsSame alone.old alone.new }
+{
+    let mut calls = VecDeque::from_array(
+        alloc,
+        [
+            Call::Register,
+            Call::Enter(0),
+            Call::Protect(0, 0),
+            Call::Leave(0),
+        ],
+    )
+    .map_err(AllocError::from)?;
+    let mut replies = Vec::new(alloc);
+    alone.run(&mut calls, &mut replies, &mut ())?;
+    Ok(replies)
 }
 
-// Makes these calls. A list that is refused was not begun, so it is made again.
-fn run(
-    rt: &impl Abort,
-    alloc: Global,
-    alone: &mut Alone<u64>,
-    mut calls: VecDeque<Call<u64>>,
-) -> Result<Vec<Reply<u64>>, Refusal> {
-    let mut replies = Vec::new(alloc);
-    if let Err(refusal) = alone.run(&mut calls, &mut replies, &mut ()) {
-        assert_eq!(rt; refusal, Refusal::NoMemory);
-        assert_eq!(rt; (calls.len(), replies.len()), (4, 0));
-        alone.run(&mut calls, &mut replies, &mut ())?;
+// What is replied to the list. One that is refused was not begun, so it is made again.
+fn run(rt: &impl Abort, alloc: Global, alone: &mut Alone<u64>) -> Result<Vec<Reply<u64>>, Refusal>
+    requires { alone.old.links ≡ 1 }
+{
+    match run_once(alloc, alone) {
+        Ok(replies) => Ok(replies),
+        Err(refusal) => {
+            assert_eq!(rt; refusal, Refusal::NoMemory);
+            run_once(alloc, alone)
+        }
     }
-    Ok(replies)
 }
 
 // The number of the slot that the list took. Where its call was refused, it is made again.
@@ -120,8 +133,7 @@ fn refused_calls_serve_when_made_again(rt: HostRuntime) -> Result<(), Fail> {
     assert_eq!(rt; register(&rt, &mut alone)?, 0);
     assert_eq!(rt; enter_owned(&rt, &mut alone)?, 1);
     assert_eq!(rt; *owned(&rt, &mut alone, 7)?, 7);
-    let calls = calls(&rt, rt.alloc())?;
-    let replies = run(&rt, rt.alloc(), &mut alone, calls)?;
+    let replies = run(&rt, rt.alloc(), &mut alone)?;
     assert_eq!(rt; taken(&rt, &mut alone, replies.as_slice())?, 2);
     let mut alone = share(&rt, alone)?;
     alone.leave(1, &mut ())?;
