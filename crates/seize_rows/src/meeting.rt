@@ -70,6 +70,7 @@ fn put_and_look(
 ) -> Result<Option<u64>, Refusal>
     requires pass { IsPassOf (registered_in registration.now) pass.old }
     requires links { let many = its_links (registered_in registration.now) in (links.0 < many) × (links.1 < many) }
+    ensures { IsPassOf (registered_in registration.now) pass.new }
 {
     let guard = registration.enter(pass)?;
     let done = put(rt, &guard, links.0, number, pass);
