@@ -6,7 +6,7 @@ ghost use Rattle.seize_table.specs.declared.refusal.Refusal.TheVariants.{NoMemor
 use std::alloc::AllocError;
 use std::fmt;
 
-/// Why a call is refused. A refusal changes nothing, and hands back every block that was given.
+/// Why a call is refused. It changes nothing, but that `Machine::run` may have done first events, and gives back each block.
 ///
 /// Where a call could be refused for several reasons, it answers the first of these: `TooManyProcessors`, `NotInUse`,
 /// `WrongKind`, `NotActive`, `TooManyGuards`, `NoNumbers`, `NoMemory`; by their numbers 4, 5, 7, 6, 3, 2, 1.

@@ -1,3 +1,0 @@
-pub mod Visitors
-pub mod Guests
-pub mod Putting

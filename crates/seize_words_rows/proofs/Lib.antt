@@ -1,4 +1,0 @@
-pub mod NumberedRuns
-pub mod Runs
-pub mod Stages
-pub mod Told
