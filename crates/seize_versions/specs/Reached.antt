@@ -1,5 +1,6 @@
 -- What a pass knows of a cell of versions. `code` is the code of a version.
 --     IsNoOlder n x             the number of x is not less than n
+--     KeepsToRule versions code pass     each change of a link that the pass has seen, since the collector was shared, was to a greater number
 --     HasReached versions code n pass     as the pass has seen, the cell holds a version whose number is not less than n; where n is 0, it may
 --                               be empty. The pass has seen all that came before the collector was shared, since when the rule holds
 use Rattle.std.specs.Prelude.{◌<◌, ◌≤◌, ℕ, Option}
@@ -7,18 +8,22 @@ use mathlib.Core.List.{IsPrefix}
 use base.Stored.{Gv}
 use Rattle.seize.specs.Collectors.{seen_by}
 use Rattle.seize.specs.Machine.State.{link_at}
-use Rattle.seize.specs.Rules.{HoldsOf}
+use Rattle.seize.specs.Rules.{HoldsOf, KeepsSince}
 use Rattle.seize.specs.declared.collector.Collector.{Collector}
 use Rattle.seize_book.specs.Homesteads.{state_seen}
 use Rattle.seize_book.specs.declared.book.pass.Pass.{Pass}
 use Rattle.seize_guards.specs.declared.parts.Home as home
-use Rattle.seize_versions.specs.Numbers.{number_of}
+use Rattle.seize_versions.specs.Numbers.{IsOlder, number_of}
 use Rattle.seize_versions.specs.Versions.{versions_cell, versions_home}
 use Rattle.seize_versions.specs.declared.version.Version.{Version}
 use Rattle.seize_versions.specs.declared.versions.Versions.{Versions}
 
 abbrev pub IsNoOlder : {T : Type 0} → ℕ → Option (Version T) → Type 0
 IsNoOlder n x = n ≤ number_of x
+
+abbrev pub KeepsToRule : {T R : Type 0} {c : home.Ghosts (Collector (Version T) R) (Version T)} → Versions T (Collector (Version T) R) c
+    → (Version T → Gv) → Pass → Type 0
+KeepsToRule versions code pass = KeepsSince code (λ _ x y. IsOlder x y) (seen_by (versions_home versions)) pass
 
 abbrev pub HasReached : {T R : Type 0} {c : home.Ghosts (Collector (Version T) R) (Version T)} → Versions T (Collector (Version T) R) c
     → (Version T → Gv) → ℕ → Pass → Type 0
