@@ -1,5 +1,5 @@
 -- The next version may go into the cell, and what an alteration by it comes to; and what a reading is.
-use Rattle.std.proofs.Common.{◌≡◌, ◌<◌, ◌+◌, ◌-◌, ◌^◌, ℕ, Option, None, Some, IfErr, IfOk, IfSome, List, option_map, sym, subst, arith}
+use Rattle.std.proofs.Common.{◌≡◌, ◌<◌, ◌+◌, ◌-◌, ◌^◌, ℕ, Option, None, Some, IfSome, List, option_map, sym, subst, arith}
 use denote.Bor.{Bor}
 use base.Stored.{Gv}
 use Rattle.core.specs.declared.result.Result.{Result}
@@ -23,7 +23,7 @@ use Rattle.seize_atomic.specs.declared.cells.NotAltered.{NotAltered}
 use Rattle.seize_atomic.specs.declared.cells.NotAltered.TheVariants as not_altered
 use Rattle.seize_atomic.proofs.Facts.{altered, refused, was_read}
 use Rattle.seize_versions.specs.Numbers.{IsNext, IsOlder, MakesNext, MayPublish, Settles, number_of, value_in}
-use Rattle.seize_versions.specs.Versions.{PublishesAt, ReadsVersion, RefusesAt, versions_cell}
+use Rattle.seize_versions.specs.Versions.{Publishes, PublishesAt, ReadsVersion, RefusesAt, versions_cell}
 use Rattle.seize_versions.specs.declared.version.NotPublished.{NotPublished}
 use Rattle.seize_versions.specs.declared.version.NotPublished.TheVariants.{Contended, LastNumber, NoMemory, Refused}
 use Rattle.seize_versions.specs.declared.version.Version.{Version}
@@ -50,43 +50,30 @@ module _ {T C : Type 0} {c : home.Ghosts C (Version T)} (versions : Versions T C
     abbrev Alters : Result ℕ (NotAltered (NotPublished E)) → Type 0
     Alters answer = AltersCell (MakesNext post) code s (versions_cell versions) (cells_kind versions.cells) tries p q answer
 
-    abbrev Published : ℕ → Type 0
-    Published = PublishesAt versions code post s p q
-
-    abbrev Failed : NotPublished E → Type 0
-    Failed = RefusesAt versions code post s p q
-
-    published : (n : ℕ) → Alters (Ok n) → Published n
+    published : (n : ℕ) → Alters (Ok n) → PublishesAt versions code post s p q n
     published n alters =
         let t = altered (MakesNext post) code s (versions_cell versions) (cells_kind versions.cells) tries p q (Ok n) alters in
         go t.0 t.1 t.3 t.2.0 t.2.1 t.2.2 t.2.3 t.2.4
       where
         go : (m : Moment) → StandsSince p q m → ExchangesOnly s (versions_cell versions) m → (x y : Option (Version T)) → MayAnswer (MakesNext post) x (Ok (y, n)) → Says code (link_at m.before (versions_cell versions)) x
-            → Says code (link_at m.after (versions_cell versions)) y → Published n
+            → Says code (link_at m.after (versions_cell versions)) y → PublishesAt versions code post s p q n
         go m since only x None (b, is, made) before after = absurd made
         go m since only x (Some y) (b, is, made) before after = (m, since, only, (x, y, before, after, subst (λ (o : Option (Version T)). IsNext post o y) is made.0, made.1))
 
-    refuses : (why : NotPublished E) → Alters (Err (not_altered.Refused why)) → Failed why
+    refuses : (why : NotPublished E) → Alters (Err (not_altered.Refused why)) → RefusesAt versions code post s p q why
     refuses why alters =
         let t = refused (MakesNext post) code s (versions_cell versions) (cells_kind versions.cells) tries p q why alters in
         go why t.0 t.1 t.2 t.3
       where
-        go : (e : NotPublished E) (m : Moment) → StandsSince p q m → LooksOnly s (versions_cell versions) m → Refuses (MakesNext post) code (link_at m.before (versions_cell versions)) e → Failed e
+        go : (e : NotPublished E) (m : Moment) → StandsSince p q m → LooksOnly s (versions_cell versions) m → Refuses (MakesNext post) code (link_at m.before (versions_cell versions)) e → RefusesAt versions code post s p q e
         go (Refused e) m since looks (x, says, (b, is, made)) = (x, (m, since, looks, says), subst (λ (o : Option (Version T)). MayAnswer post (value_in o) (Err e)) is made)
         go LastNumber m since looks (x, says, (b, is, made)) = (x, (m, since, looks, says), subst (λ (o : Option (Version T)). number_of o ≡ 2 ^ 64 - 1) is made)
         go NoMemory m since looks refusal = tt
         go Contended m since looks refusal = tt
 
-    -- **A publication that was made has its moment,**
-    pub settles_ok : (answer : Result ℕ (NotAltered (NotPublished E))) → Alters answer → (result : Result ℕ (NotPublished E)) → Settles answer result → IfOk result Published
-    settles_ok (Ok n) alters result is = subst (λ (r : Result ℕ (NotPublished E)). IfOk r Published) (sym is) (published n alters)
-    settles_ok (Err (not_altered.Refused why)) alters result is = subst (λ (r : Result ℕ (NotPublished E)). IfOk r Published) (sym is) tt
-    settles_ok (Err not_altered.NoMemory) alters result is = subst (λ (r : Result ℕ (NotPublished E)). IfOk r Published) (sym is) tt
-    settles_ok (Err not_altered.Contended) alters result is = subst (λ (r : Result ℕ (NotPublished E)). IfOk r Published) (sym is) tt
-
-    -- **and one that was refused.**
-    pub settles_err : (answer : Result ℕ (NotAltered (NotPublished E))) → Alters answer → (result : Result ℕ (NotPublished E)) → Settles answer result → IfErr result Failed
-    settles_err (Ok n) alters result is = subst (λ (r : Result ℕ (NotPublished E)). IfErr r Failed) (sym is) tt
-    settles_err (Err (not_altered.Refused why)) alters result is = subst (λ (r : Result ℕ (NotPublished E)). IfErr r Failed) (sym is) (refuses why alters)
-    settles_err (Err not_altered.NoMemory) alters result is = subst (λ (r : Result ℕ (NotPublished E)). IfErr r Failed) (sym is) tt
-    settles_err (Err not_altered.Contended) alters result is = subst (λ (r : Result ℕ (NotPublished E)). IfErr r Failed) (sym is) tt
+    -- **A publication has its moment, also where the function refused.**
+    pub settles : (answer : Result ℕ (NotAltered (NotPublished E))) → Alters answer → (result : Result ℕ (NotPublished E)) → Settles answer result → Publishes versions code post s p q result
+    settles (Ok n) alters result is = subst (Publishes versions code post s p q) (sym is) (published n alters)
+    settles (Err (not_altered.Refused why)) alters result is = subst (Publishes versions code post s p q) (sym is) (refuses why alters)
+    settles (Err not_altered.NoMemory) alters result is = subst (Publishes versions code post s p q) (sym is) tt
+    settles (Err not_altered.Contended) alters result is = subst (Publishes versions code post s p q) (sym is) tt

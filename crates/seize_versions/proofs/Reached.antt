@@ -22,7 +22,7 @@ use Rattle.seize_versions.specs.Reached.{IsNoOlder}
 use Rattle.seize_versions.specs.declared.version.Version.{Version}
 
 -- what follows a version that is no older is no older
-carries : {T : Type 0} (n : ℕ) (x y : Option (Version T)) → IsNoOlder n x → IsOlder x y → IsNoOlder n y
+pub carries : {T : Type 0} (n : ℕ) (x y : Option (Version T)) → IsNoOlder n x → IsOlder x y → IsNoOlder n y
 carries n x y one two = omega (arith, one, two)
 
 -- where nothing is known of number 0

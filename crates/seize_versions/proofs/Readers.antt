@@ -17,8 +17,8 @@ use Rattle.seize_guards.specs.declared.parts.Home as home
 use Rattle.seize_atomic.specs.Cells.{cells_kind}
 use Rattle.seize_atomic.proofs.Facts.{alters_make}
 use Rattle.seize_versions.specs.Numbers.{MakesNext, number_of}
-use Rattle.seize_versions.specs.Reached.{HasReached, KeepsToRule}
-use Rattle.seize_versions.specs.Versions.{AltersVersion, LooksAt, PublishesAt, ReadsVersion, RefusesAt, versions_cell, versions_home}
+use Rattle.seize_versions.specs.Reached.{HasReached, KeepsToRule, KnowsThen}
+use Rattle.seize_versions.specs.Versions.{AltersVersion, LooksAt, Publishes, PublishesAt, ReadsVersion, versions_cell, versions_home}
 use Rattle.seize_versions.specs.declared.version.NotPublished.{NotPublished}
 use Rattle.seize_versions.specs.declared.version.NotPublished.TheVariants.{Contended, LastNumber, NoMemory, Refused}
 use Rattle.seize_versions.specs.declared.version.Version.{Version}
@@ -35,23 +35,12 @@ module _ {T C : Type 0} {c : home.Ghosts C (Version T)} (versions : Versions T C
   reads_still x reads = ((reads.0.0, then_none reads.0.1 none, reads.0.2), looks_still x reads.1)
 
   module _ {E : Type 0} (post : Option (Bor T) → Result T E → Type 0) where
-    published_still : (n : ℕ) → PublishesAt versions code post s p q n → PublishesAt versions code post s p r n
-    published_still n at = (at.0, still_since p at.0 at.1 none, at.2, at.3)
-
-    refuses_still : (why : NotPublished E) → RefusesAt versions code post s p q why → RefusesAt versions code post s p r why
-    refuses_still (Refused e) at = (at.0, looks_still at.0 at.1, at.2)
-    refuses_still LastNumber at = (at.0, looks_still at.0 at.1, at.2)
-    refuses_still NoMemory at = tt
-    refuses_still Contended at = tt
-
-    pub ok_still : (result : Result ℕ (NotPublished E)) → IfOk result (PublishesAt versions code post s p q) → IfOk result (PublishesAt versions code post s p r)
-    ok_still (Ok n) at = published_still n at
-    ok_still (Err why) at = tt
-
-    pub err_still : (result : Result ℕ (NotPublished E)) (n m : ℕ) → IfErr result (RefusesAt versions code post s p q) → IfErr result (λ _. n ≡ m)
-        → IfErr result (λ why. (n ≡ m) × RefusesAt versions code post s p r why)
-    err_still (Ok k) n m at same = tt
-    err_still (Err why) n m at same = (same, refuses_still why at)
+    pub published_still : (result : Result ℕ (NotPublished E)) → Publishes versions code post s p q result → Publishes versions code post s p r result
+    published_still (Ok n) at = (at.0, still_since p at.0 at.1 none, at.2, at.3)
+    published_still (Err (Refused e)) at = (at.0, looks_still at.0 at.1, at.2)
+    published_still (Err LastNumber) at = (at.0, looks_still at.0 at.1, at.2)
+    published_still (Err NoMemory) at = tt
+    published_still (Err Contended) at = tt
 
     pub altered_then : (tries : ℕ) (result : Result ℕ (NotPublished E)) → AltersVersion versions code post s tries p q result → (es : List (Event × Answer)) × Makes p r es
     altered_then tries result alters =
@@ -84,11 +73,11 @@ module _ {T R : Type 0} {c : home.Ghosts (Collector (Version T) R) (Version T)} 
     reached_by k (m, since, only, (x, y, before, after, next, is)) =
         subst (λ (m : ℕ). ∥ HasReached versions coded.code m r ∥₁) (sym is) (∥∥₁_map known (λ k. reached_after coded kept (versions_cell versions) made k.0 m since (Some y) after))
 
-    pub publish_newer : (result : Result ℕ (NotPublished E)) → IfOk result (PublishesAt versions coded.code post s p r) → (k : ℕ) → IfOk result (λ m. k ≡ m) → IfOk result (λ m. (n < m) × (k ≡ m))
-    publish_newer (Ok m) at k is = (newer_than m at, is)
-    publish_newer (Err why) at k is = tt
+    pub publish_newer : (result : Result ℕ (NotPublished E)) → Publishes versions coded.code post s p r result → (k : ℕ) → IfOk result (λ m. k ≡ m) → IfErr result (λ _. k ≡ n) → KnowsThen n k result
+    publish_newer (Ok m) at k is not_made = (newer_than m at, is)
+    publish_newer (Err why) at k is not_made = not_made
 
-    pub publish_reached : (result : Result ℕ (NotPublished E)) → IfOk result (PublishesAt versions coded.code post s p r) → (k : ℕ) → IfOk result (λ m. k ≡ m) → IfErr result (λ _. k ≡ n) → ∥ HasReached versions coded.code k r ∥₁
+    pub publish_reached : (result : Result ℕ (NotPublished E)) → Publishes versions coded.code post s p r result → (k : ℕ) → IfOk result (λ m. k ≡ m) → IfErr result (λ _. k ≡ n) → ∥ HasReached versions coded.code k r ∥₁
     publish_reached (Ok m) at k is not_made = subst (λ (m : ℕ). ∥ HasReached versions coded.code m r ∥₁) (sym is) (reached_by m at)
     publish_reached (Err why) at k is not_made = subst (λ (m : ℕ). ∥ HasReached versions coded.code m r ∥₁) (sym not_made) (looked made)
 

@@ -3,9 +3,12 @@
 --     KeepsToRule versions code pass     each change of a link that the pass has seen, since the collector was shared, was to a greater number
 --     HasReached versions code n pass     as the pass has seen, the cell holds a version whose number is not less than n; where n is 0, it may
 --                               be empty. The pass has seen all that came before the collector was shared, since when the rule holds
-use Rattle.std.specs.Prelude.{◌<◌, ◌≤◌, ℕ, Option}
+--     KnowsThen n k result      a number that was published is greater than n, and is k; where none was, k is n
+use Rattle.std.specs.Prelude.{◌≡◌, ◌<◌, ◌≤◌, ℕ, Option}
 use mathlib.Core.List.{IsPrefix}
 use base.Stored.{Gv}
+use Rattle.core.specs.declared.result.Result.{Result}
+use Rattle.core.specs.declared.result.Result.TheVariants.{Err, Ok}
 use Rattle.seize.specs.Collectors.{seen_by}
 use Rattle.seize.specs.Machine.State.{link_at}
 use Rattle.seize.specs.Rules.{HoldsOf, KeepsSince}
@@ -30,3 +33,7 @@ abbrev pub HasReached : {T R : Type 0} {c : home.Ghosts (Collector (Version T) R
 HasReached {T} versions code n pass =
     IsPrefix (seen_by (versions_home versions)) pass.seen
     × (0 < n → HoldsOf code (IsNoOlder n) (link_at (state_seen pass) (versions_cell versions)))
+
+abbrev pub KnowsThen : {E : Type 0} → ℕ → ℕ → Result ℕ E → Type 0
+KnowsThen n k (Ok m) = (n < m) × (k ≡ m)
+KnowsThen n k (Err _) = k ≡ n

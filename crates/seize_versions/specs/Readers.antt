@@ -6,9 +6,12 @@
 --     BeginsReader by r         the pass `by` is a new one of the collector, with which its slot was taken and entered, and then it looked
 --     ReadsOn r r' x            it read the cell, which holds x at a moment since (ReadsVersion). The number of x is not less than that which
 --                               it knew, and is the one that it knows then
+--     PublishesOn post tries r r' result     its slot altered the cell by the next version (AltersVersion), and then its pass looked
 --     RefreshesOn r r'          its slot refreshed, and then its pass looked
 use Rattle.std.specs.Prelude.{◌≡◌, ◌≤◌, ℕ, List, [], Option}
+use denote.Bor.{Bor}
 use base.Stored.{Gv}
+use Rattle.core.specs.declared.result.Result.{Result}
 use Rattle.seize.specs.Collectors.{IsNewPassOf}
 use Rattle.seize.specs.Guards.{owned_slot}
 use Rattle.seize.specs.Job.TheVariants.{Refresh}
@@ -19,9 +22,10 @@ use Rattle.seize.specs.declared.collector.Collector.{Collector}
 use Rattle.seize_book.specs.declared.book.pass.Pass.{Pass}
 use Rattle.seize_guards.specs.declared.parts.Home as home
 use Rattle.seize_versions.specs.Numbers.{number_of}
-use Rattle.seize_versions.specs.Versions.{ReadsVersion, versions_home}
+use Rattle.seize_versions.specs.Versions.{AltersVersion, ReadsVersion, versions_home}
 use Rattle.seize_versions.specs.declared.reader.Reader.{Reader}
 use Rattle.seize_versions.specs.declared.version.ByNumber.{ByNumber}
+use Rattle.seize_versions.specs.declared.version.NotPublished.{NotPublished}
 use Rattle.seize_versions.specs.declared.version.Version.{Version}
 use Rattle.seize_versions.specs.declared.versions.Versions.{Versions}
 
@@ -55,6 +59,12 @@ module _ {T : Type 0} {k : codes.Ghosts (Version T)} {h : home.Ghosts (Collector
     ReadsOn reader reader' x =
         ReadsVersion (reader_versions reader) code (reader_slot reader) (reader_pass reader) (reader_pass reader') x
         × (reader_newest reader ≤ number_of x) × (reader_newest reader' ≡ number_of x)
+
+    abbrev pub PublishesOn : {E : Type 0} → (Option (Bor T) → Result T E → Type 0) → ℕ → Reader T k h → Reader T k h
+        → Result ℕ (NotPublished E) → Type 0
+    PublishesOn post tries reader reader' result =
+        (done : Pass) × AltersVersion (reader_versions reader) code post (reader_slot reader) tries (reader_pass reader) done result
+        × MakesNone done (reader_pass reader')
 
     abbrev pub RefreshesOn : Reader T k h → Reader T k h → Type 0
     RefreshesOn reader reader' =

@@ -9,13 +9,14 @@
 --                               holds a version x before, or nothing, and the next one after that (IsNext), whose number is n
 --     RefusesAt versions code post s pass pass' why     slot s looked at the cell, and the function may refuse so for what it holds there;
 --                               or that has the last number. For other errors this says nothing
+--     Publishes versions code post s pass pass' result     it published so, or could not
 --     AltersVersion versions code post s tries pass pass' result     slot s altered the cell (AltersCell), by a function that makes the next
 --                               version
 use Rattle.std.specs.Prelude.{◌≡◌, ◌-◌, ◌^◌, ℕ, Option, Some}
 use denote.Bor.{Bor}
 use base.Stored.{Gv}
 use Rattle.core.specs.declared.result.Result.{Result}
-use Rattle.core.specs.declared.result.Result.TheVariants.{Err}
+use Rattle.core.specs.declared.result.Result.TheVariants.{Err, Ok}
 use Rattle.seize.specs.Answer.TheVariants.{Link}
 use Rattle.seize.specs.Collectors.{IsPassOf}
 use Rattle.seize.specs.Machine.Event.{ReadLink}
@@ -70,6 +71,10 @@ module _ {T C : Type 0} {c : home.Ghosts C (Version T)} (versions : Versions T C
       RefusesAt pass pass' (Refused e) = (x : Option (Version T)) × LooksAt s pass pass' x × MayAnswer post (value_in x) (Err e)
       RefusesAt pass pass' LastNumber = (x : Option (Version T)) × LooksAt s pass pass' x × (number_of x ≡ 2 ^ 64 - 1)
       RefusesAt pass pass' _ = Unit {0}
+
+      abbrev pub Publishes : Pass → Pass → Result ℕ (NotPublished E) → Type 0
+      Publishes pass pass' (Ok n) = PublishesAt pass pass' n
+      Publishes pass pass' (Err why) = RefusesAt pass pass' why
 
       abbrev pub AltersVersion : ℕ → Pass → Pass → Result ℕ (NotPublished E) → Type 0
       AltersVersion tries pass pass' result =

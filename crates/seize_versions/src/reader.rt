@@ -89,12 +89,13 @@ impl<'c, T: Drop> Versions<'c, T, Collector<Version<T>, ByNumber>> {
 
 impl<'v, 'c, T: Drop> Reader<'v, 'c, T> {
     ghost use denote.Bor.{Bor};
-    ghost use Rattle.std.specs.Prelude.{◌<◌, ◌≤◌, Option};
+    ghost use Rattle.std.specs.Prelude.{◌≤◌, Option};
     ghost use Rattle.seize.specs.Collectors.{IsPassOf};
     ghost use Rattle.seize.specs.Guards.{owned_slot};
     ghost use Rattle.seize_versions.specs.Numbers.{number_of};
-    ghost use Rattle.seize_versions.specs.Readers.{IsSameReader, ReadsOn, RefreshesOn, reader_newest, reader_pass, reader_slot, reader_versions};
-    ghost use Rattle.seize_versions.specs.Versions.{PublishesAt, ReadsVersion, RefusesAt, versions_words};
+    ghost use Rattle.seize_versions.specs.Reached.{KnowsThen};
+    ghost use Rattle.seize_versions.specs.Readers.{IsSameReader, PublishesOn, ReadsOn, RefreshesOn, reader_newest, reader_pass, reader_slot, reader_versions};
+    ghost use Rattle.seize_versions.specs.Versions.{Publishes, ReadsVersion, versions_words};
     ghost use Rattle.seize_versions.specs.contracts.version.Version.{the_row};
     ghost use Rattle.seize_versions.specs.declared.version.Version.{Version as a_version};
 
@@ -151,11 +152,10 @@ impl<'v, 'c, T: Drop> Reader<'v, 'c, T> {
         F: Drop,
         requires callable { F.IsAlwaysCallable f }
         ensures same { IsSameReader self.old self.new }
-        ensures newer { IfOk result (λ n. (reader_newest self.old < n) × (reader_newest self.new ≡ n)) }
-        ensures publishes { IfOk result (PublishesAt (reader_versions self.old) (the_row T.row).coded.code (F.post f) (reader_slot self.old)
-            (reader_pass self.old) (reader_pass self.new)) }
-        ensures refuses { IfErr result (λ why. (reader_newest self.new ≡ reader_newest self.old) × RefusesAt (reader_versions self.old)
-            (the_row T.row).coded.code (F.post f) (reader_slot self.old) (reader_pass self.old) (reader_pass self.new) why) }
+        ensures newer { KnowsThen (reader_newest self.old) (reader_newest self.new) result }
+        ensures publishes { Publishes (reader_versions self.old) (the_row T.row).coded.code (F.post f) (reader_slot self.old)
+            (reader_pass self.old) (reader_pass self.new) result }
+        ensures alters { PublishesOn (the_row T.row).coded.code (F.post f) tries self.old self.new result }
     {
         let published = self.versions.publish(rt, &self.guard, f, tries, &mut self.pass);
         self.versions.know(&mut self.pass);

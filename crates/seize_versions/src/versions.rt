@@ -48,11 +48,11 @@ impl<'c, T: Drop, R: Reclaim<Version<T>>> Versions<'c, T, Collector<Version<T>, 
 }
 
 impl<'c, T: Drop, C: Home<Version<T>>> Versions<'c, T, C> {
-    ghost use Rattle.std.specs.Prelude.{IfErr, IfOk, IfSome};
+    ghost use Rattle.std.specs.Prelude.{IfSome};
     ghost use Rattle.seize.specs.Collectors.{IsPassOf, its_store};
     ghost use Rattle.seize.specs.Links.{IsSharedOf, shared_value};
     ghost use Rattle.seize_versions.specs.Numbers.{MakesNext, MayPublish};
-    ghost use Rattle.seize_versions.specs.Versions.{AltersVersion, IsForVersions, PublishesAt, ReadsVersion, RefusesAt, versions_cell, versions_home};
+    ghost use Rattle.seize_versions.specs.Versions.{AltersVersion, IsForVersions, Publishes, ReadsVersion, versions_cell, versions_home};
     ghost use Rattle.seize_versions.specs.contracts.version.Version.{the_row};
 
     /// Its collector, by which threads register, and get guards and passes.
@@ -108,8 +108,7 @@ impl<'c, T: Drop, C: Home<Version<T>>> Versions<'c, T, C> {
         requires of { IsForVersions self.now (G.its_collector guard.now) pass.old }
         requires callable { F.IsAlwaysCallable f }
         requires rule { MayPublish G.Reclaimer.keeps G.Reclaimer.owners (its_store (G.its_collector guard.now)) (versions_cell self.now) }
-        ensures publishes { IfOk result (PublishesAt self.now (the_row T.row).coded.code (F.post f) (G.its_slot guard.now) pass.old pass.new) }
-        ensures refuses { IfErr result (RefusesAt self.now (the_row T.row).coded.code (F.post f) (G.its_slot guard.now) pass.old pass.new) }
+        ensures publishes { Publishes self.now (the_row T.row).coded.code (F.post f) (G.its_slot guard.now) pass.old pass.new result }
         ensures alters { AltersVersion self.now (the_row T.row).coded.code (F.post f) (G.its_slot guard.now) tries pass.old pass.new result }
         ensures pass { IsPassOf (G.its_collector guard.now) pass.new }
     {

@@ -5,7 +5,7 @@ use Rattle.seize_atomic.proofs.Facts.{alters_less}
 use Rattle.seize_versions.specs.Numbers.{MakesNext}
 use Rattle.seize_versions.specs.Versions.{versions_cell}
 use Rattle.seize_versions.specs.contracts.version.Version.{the_row}
-use Rattle.seize_versions.proofs.Next.{may_hold, settles_err, settles_ok}
+use Rattle.seize_versions.proofs.Next.{may_hold, settles}
 use Rattle.seize_versions.proofs.versions.Versions.publish.Goals as goal
 
 -- the next version may go in
@@ -17,14 +17,7 @@ alter-requires-clause-may_hold g c x y n answers =
 pub returns-clause-publishes : goal.returns-clause-publishes
 returns-clause-publishes g c =
     let versions = c.args.self.now in let code = (the_row g.row.T).coded.code in let s = g.G.Guard.its_slot c.args.guard.now in
-    settles_ok versions code (goal.F-post g c.args.f) s c.args.tries c.args.pass.now c.alter.new.pass c.alter.result
-    (alters_less _ (MakesNext (goal.F-post g c.args.f)) (λ x r said. search rules) code s (versions_cell versions) (cells_kind versions.cells) c.args.tries c.args.pass.now c.alter.new.pass c.alter.result c.alter.ensures.alters)
-    c.settled.result c.settled.ensures
-
-pub returns-clause-refuses : goal.returns-clause-refuses
-returns-clause-refuses g c =
-    let versions = c.args.self.now in let code = (the_row g.row.T).coded.code in let s = g.G.Guard.its_slot c.args.guard.now in
-    settles_err versions code (goal.F-post g c.args.f) s c.args.tries c.args.pass.now c.alter.new.pass c.alter.result
+    settles versions code (goal.F-post g c.args.f) s c.args.tries c.args.pass.now c.alter.new.pass c.alter.result
     (alters_less _ (MakesNext (goal.F-post g c.args.f)) (λ x r said. search rules) code s (versions_cell versions) (cells_kind versions.cells) c.args.tries c.args.pass.now c.alter.new.pass c.alter.result c.alter.ensures.alters)
     c.settled.result c.settled.ensures
 
