@@ -8,6 +8,7 @@
 --                               it knew, and is the one that it knows then
 --     PublishesOn post tries r r' result     its slot altered the cell by the next version (AltersVersion), and then its pass looked
 --     RefreshesOn r r'          its slot refreshed, and then its pass looked
+--     LeavesOn r                its slot left, and then its use ended
 use Rattle.std.specs.Prelude.{◌≡◌, ◌≤◌, ℕ, List, [], Option}
 use denote.Bor.{Bor}
 use base.Stored.{Gv}
@@ -15,7 +16,7 @@ use Rattle.core.specs.declared.result.Result.{Result}
 use Rattle.seize.specs.Collectors.{IsNewPassOf}
 use Rattle.seize.specs.Guards.{owned_slot}
 use Rattle.seize.specs.Job.TheVariants.{Refresh}
-use Rattle.seize.specs.Makes.{MakesCall, MakesNone, TakesAndEnters}
+use Rattle.seize.specs.Makes.{LeavesAndGives, MakesCall, MakesNone, TakesAndEnters}
 use Rattle.seize.specs.Puts.{PutBy}
 use Rattle.seize.specs.declared.alone.codes.Codes as codes
 use Rattle.seize.specs.declared.collector.Collector.{Collector}
@@ -70,3 +71,6 @@ module _ {T : Type 0} {k : codes.Ghosts (Version T)} {h : home.Ghosts (Collector
     RefreshesOn reader reader' =
         (refreshed : Pass) × MakesCall (PutsNone code) (reader_slot reader) Refresh (reader_pass reader) refreshed
         × MakesNone refreshed (reader_pass reader')
+
+    abbrev pub LeavesOn : Reader T k h → Type 0
+    LeavesOn reader = (left : Pass) × LeavesAndGives (PutsNone code) (reader_slot reader) (reader_pass reader) left

@@ -11,7 +11,7 @@ use crate::versions::Versions;
 use seize::{Codes, Collector, Home, OwnedGuard, Pass, Refusal, Shared};
 use std::sync::Wait;
 
-/// A reader of a cell of versions. It is spent by `into_parts`.
+/// A reader of a cell of versions. It is spent by `leave`, or by `into_parts`.
 ///
 /// While it stands, nothing ends that it may have found: a reader that lives for long calls `refresh` now and then.
 pub struct Reader<'v, 'c, T: Drop>
@@ -94,7 +94,7 @@ impl<'v, 'c, T: Drop> Reader<'v, 'c, T> {
     ghost use Rattle.seize.specs.Guards.{owned_slot};
     ghost use Rattle.seize_versions.specs.Numbers.{number_of};
     ghost use Rattle.seize_versions.specs.Reached.{KnowsThen};
-    ghost use Rattle.seize_versions.specs.Readers.{IsSameReader, PublishesOn, ReadsOn, RefreshesOn, reader_newest, reader_pass, reader_slot, reader_versions};
+    ghost use Rattle.seize_versions.specs.Readers.{IsSameReader, LeavesOn, PublishesOn, ReadsOn, RefreshesOn, reader_newest, reader_pass, reader_slot, reader_versions};
     ghost use Rattle.seize_versions.specs.Versions.{Publishes, ReadsVersion, versions_words};
     ghost use Rattle.seize_versions.specs.contracts.version.Version.{the_row};
     ghost use Rattle.seize_versions.specs.declared.version.Version.{Version as a_version};
@@ -171,6 +171,19 @@ impl<'v, 'c, T: Drop> Reader<'v, 'c, T> {
     {
         self.guard.refresh(rt, &mut self.pass);
         self.versions.know(&mut self.pass);
+    }
+
+    /// Ends the reader: its guard leaves, and its slot ends: see `OwnedGuard::leave`, also for what it waits for, and for what ends in it.
+    pub fn leave<W: Wait>(self, rt: &W)
+        ensures { LeavesOn (the_row T.row).coded.code self.entry }
+    {
+        let Reader {
+            versions: _,
+            guard,
+            mut pass,
+            newest: _,
+        } = self;
+        guard.leave(rt, &mut pass);
     }
 
     /// Ends the reader: its guard, which is to leave, and the pass, which has seen all that the reader did.
