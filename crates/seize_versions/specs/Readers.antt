@@ -18,7 +18,6 @@ use Rattle.seize.specs.Guards.{owned_slot}
 use Rattle.seize.specs.Job.TheVariants.{Refresh}
 use Rattle.seize.specs.Makes.{LeavesAndGives, MakesCall, MakesNone, TakesAndEnters}
 use Rattle.seize.specs.Puts.{PutBy}
-use Rattle.seize.specs.declared.alone.codes.Codes as codes
 use Rattle.seize.specs.declared.collector.Collector.{Collector}
 use Rattle.seize_book.specs.declared.book.pass.Pass.{Pass}
 use Rattle.seize_guards.specs.declared.parts.Home as home
@@ -26,6 +25,7 @@ use Rattle.seize_versions.specs.Numbers.{number_of}
 use Rattle.seize_versions.specs.Versions.{AltersVersion, ReadsVersion, versions_home}
 use Rattle.seize_versions.specs.declared.reader.Reader.{Reader}
 use Rattle.seize_versions.specs.declared.version.ByNumber.{ByNumber}
+use Rattle.seize_versions.specs.declared.version.Named as named
 use Rattle.seize_versions.specs.declared.version.NotPublished.{NotPublished}
 use Rattle.seize_versions.specs.declared.version.Version.{Version}
 use Rattle.seize_versions.specs.declared.versions.Versions.{Versions}
@@ -33,7 +33,7 @@ use Rattle.seize_versions.specs.declared.versions.Versions.{Versions}
 abbrev pub PutsNone : {T : Type 0} → (Version T → Gv) → Pass → ℕ → List ℕ → Type 0
 PutsNone code = PutBy code (λ _ _. [])
 
-module _ {T : Type 0} {k : codes.Ghosts (Version T)} {h : home.Ghosts (Collector (Version T) ByNumber) (Version T)} where
+module _ {T : Type 0} {k : named.Ghosts (Version T)} {h : home.Ghosts (Collector (Version T) ByNumber) (Version T)} where
   abbrev pub reader_versions : Reader T k h → Versions T (Collector (Version T) ByNumber) h
   reader_versions reader = reader.versions.now
 

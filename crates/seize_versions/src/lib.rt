@@ -8,7 +8,7 @@ pub mod versions;
 
 pub use reader::Reader;
 use seize::Collector;
-pub use version::{ByNumber, NotPublished, Version};
+pub use version::{ByNumber, Named, NotPublished, Version};
 
 /// A cell of versions on a link of a collector. Code over any `G: Guard<Version<T>>` takes `versions::Versions<'_, T, G::At>`.
 pub type Versions<'c, T, R = ByNumber> = versions::Versions<'c, T, Collector<Version<T>, R>>;

@@ -6,17 +6,18 @@ ghost use Rattle.seize.specs.Links.{shared_value};
 ghost use Rattle.seize_versions.specs.Reached.{HasReached};
 ghost use Rattle.seize_versions.specs.Versions.{IsForVersions};
 
-use crate::version::{ByNumber, NotPublished, Version, number};
+use crate::version::{ByNumber, Named, NotPublished, Version, number};
 use crate::versions::Versions;
-use seize::{Codes, Collector, Home, OwnedGuard, Pass, Refusal, Shared};
+use seize::{Collector, Home, OwnedGuard, Pass, Refusal, Shared};
 use std::sync::Wait;
 
 /// A reader of a cell of versions. It is spent by `leave`, or by `into_parts`.
 ///
-/// While it stands, nothing ends that it may have found: a reader that lives for long calls `refresh` now and then.
+/// While it stands, nothing ends that it may have found: a reader that lives for long calls `refresh` now and then. A struct that holds one,
+/// for any `T`, repeats its bounds.
 pub struct Reader<'v, 'c, T: Drop>
 where
-    Version<T>: Codes,
+    Version<T>: Named,
     Collector<Version<T>, ByNumber>: Home<Version<T>>,
 {
     versions: &'v Versions<'c, T, Collector<Version<T>, ByNumber>>,
@@ -24,7 +25,7 @@ where
     pass: Pass<'c>,
     newest: u64,
     ghost of: { IsForVersions versions.now (owned_collector guard) pass },
-    ghost reached: { ∥ HasReached versions.now ⟦<Version<T> as Codes>⟧.its.code newest pass ∥₁ },
+    ghost reached: { ∥ HasReached versions.now ⟦<Version<T> as Named>⟧.code newest pass ∥₁ },
 }
 
 impl<'c, T: Drop> Versions<'c, T, Collector<Version<T>, ByNumber>> {
@@ -52,16 +53,16 @@ impl<'c, T: Drop> Versions<'c, T, Collector<Version<T>, ByNumber>> {
         &self,
         guard: &'g OwnedGuard<'c, Version<T>, ByNumber>,
         pass: &mut Pass,
-    ) -> Option<Shared<'g, Version<T>>>
+    ) -> Option<&'g Version<T>>
         requires of { IsForVersions self.now (owned_collector guard.now) pass.old }
         ensures reads { ReadsVersion self.now (the_row T.row).coded.code (owned_slot guard.now) pass.old pass.new
-            (option_map shared_value result) }
+            (option_copied result) }
         ensures rule { KeepsToRule self.now (the_row T.row).coded.code pass.new }
         ensures pass { IsPassOf (owned_collector guard.now) pass.new }
     {
         let found = self.read(guard, pass);
         self.know(pass);
-        found
+        version_of(found)
     }
 
     /// A reader of the cell, which saw nothing yet. It has a slot of its own, and waits and takes memory as `Collector::enter_owned` does.
@@ -114,8 +115,7 @@ impl<'v, 'c, T: Drop> Reader<'v, 'c, T> {
         ensures reads { (x : Option (a_version T)) × ReadsOn (the_row T.row).coded.code self.old self.new x
             × ((found : Option (Bor (a_version T))) × (option_copied found ≡ x) × F.post f found result) }
     {
-        let found = self.versions.look(&self.guard, &mut self.pass);
-        let version = version_of(&found);
+        let version = self.versions.look(&self.guard, &mut self.pass);
         self.newest = number(version);
         f(version)
     }
@@ -131,8 +131,7 @@ impl<'v, 'c, T: Drop> Reader<'v, 'c, T> {
         ensures no_older { reader_newest self.old ≤ number_of result }
         ensures newest { reader_newest self.new ≡ number_of result }
     {
-        let found = self.versions.look(&self.guard, &mut self.pass);
-        let version = version_of(&found);
+        let version = self.versions.look(&self.guard, &mut self.pass);
         self.newest = number(version);
         version.copied()
     }
@@ -203,10 +202,8 @@ impl<'v, 'c, T: Drop> Reader<'v, 'c, T> {
 }
 
 // The version that was found.
-fn version_of<'a, 'g: 'a, T: Drop>(
-    found: &'a Option<Shared<'g, Version<T>>>,
-) -> Option<&'a Version<T>>
-    ensures { option_copied result ≡ option_map shared_value found.now }
+fn version_of<'g, T: Drop>(found: Option<Shared<'g, Version<T>>>) -> Option<&'g Version<T>>
+    ensures { option_copied result ≡ option_map shared_value found.entry }
 {
     match found {
         Some(shared) => Some(shared.get()),

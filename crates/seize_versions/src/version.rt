@@ -1,4 +1,5 @@
 //! Versions, the rule that their numbers grow, and how the next one is made of what a cell holds.
+ghost use base.Stored.{Gv};
 ghost use Rattle.std.proofs.Common.{lit<};
 ghost use Rattle.std.specs.Prelude.{◌≡◌, option_copied};
 ghost use Rattle.seize_versions.specs.Numbers.{IsOlder, MakesNext, Settles, number_of, value_in};
@@ -35,6 +36,17 @@ impl<T: Drop> Reclaim<Version<T>> for ByNumber {
         _further: &mut Further<'_, Version<T>, ByNumber>,
     ) {
     }
+}
+
+/// Every type says by which code the list names its values. There is nothing to implement: a struct that has a `Reader` as a field, for any
+/// `T`, writes the bounds of `Reader`.
+pub trait Named {
+    /// The code.
+    ghost code: { Self → Gv };
+}
+
+impl<T> Named for T {
+    ghost code = { T.row.coded.code };
 }
 
 /// Why no version was published. The cell was not changed by the call then.

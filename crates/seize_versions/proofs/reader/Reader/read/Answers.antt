@@ -1,5 +1,4 @@
-use Rattle.std.proofs.Common.{◌≡◌, ◌≤◌, ℕ, Option, ap, option_map, sym, subst, ◌∙◌}
-use Rattle.seize.specs.Links.{shared_value}
+use Rattle.std.proofs.Common.{◌≤◌, ℕ, option_copied, sym, subst}
 use Rattle.seize_versions.specs.Numbers.{number_of}
 use Rattle.seize_versions.specs.Reached.{HasReached}
 use Rattle.seize_versions.specs.Readers.{reader_newest, reader_slot, reader_versions}
@@ -10,13 +9,13 @@ use Rattle.seize_versions.proofs.reader.Reader.read.Goals as goal
 -- what it found it knows
 pub invariant_of-self-clause-reached : goal.invariant_of-self-clause-reached
 invariant_of-self-clause-reached g c =
-    let reader = c.args.self.now in let coded = (the_row g.row.T).coded in let x = option_map shared_value c.look-found.result in
-    subst (λ (n : ℕ). ∥ HasReached (reader_versions reader) coded.code n c.look-found.new.pass ∥₁) (sym (c.number-self.ensures ∙ ap number_of c.version_of-version.ensures))
-    (read_reached (reader_versions reader) coded c.look-found.ensures.rule (reader_newest reader) reader.reached (reader_slot reader) x c.look-found.ensures.reads)
+    let reader = c.args.self.now in let versions = reader_versions reader in let coded = (the_row g.row.T).coded in
+    subst (λ (n : ℕ). ∥ HasReached versions coded.code n c.look-version.new.pass ∥₁) (sym c.number-self.ensures)
+    (read_reached versions coded c.look-version.ensures.rule (reader_newest reader) reader.reached (reader_slot reader) (option_copied c.look-version.result) c.look-version.ensures.reads)
 
 -- and that is no older than what it knew
 pub returns-clause-no_older : goal.returns-clause-no_older
 returns-clause-no_older g c =
-    let reader = c.args.self.now in let coded = (the_row g.row.T).coded in let x = option_map shared_value c.look-found.result in
-    subst (λ o. reader_newest reader ≤ number_of o) (sym (c.copied.ensures ∙ c.version_of-version.ensures))
-    (read_no_older (reader_versions reader) coded c.look-found.ensures.rule (reader_newest reader) reader.reached (reader_slot reader) x c.look-found.ensures.reads)
+    let reader = c.args.self.now in
+    subst (λ o. reader_newest reader ≤ number_of o) (sym c.copied.ensures)
+    (read_no_older (reader_versions reader) (the_row g.row.T).coded c.look-version.ensures.rule (reader_newest reader) reader.reached (reader_slot reader) (option_copied c.look-version.result) c.look-version.ensures.reads)
