@@ -1,5 +1,5 @@
 -- The next version may go into the cell, and what an alteration by it comes to; and what a reading is.
-use Rattle.std.proofs.Common.{◌≡◌, ◌<◌, ◌+◌, ◌-◌, ◌^◌, ℕ, Option, None, Some, IfSome, List, option_map, sym, subst, arith}
+use Rattle.std.proofs.Common.{◌≡◌, ◌-◌, ◌^◌, ℕ, Option, None, Some, IfSome, List, option_map, sym, subst, arith}
 use denote.Bor.{Bor}
 use base.Stored.{Gv}
 use Rattle.core.specs.declared.result.Result.{Result}

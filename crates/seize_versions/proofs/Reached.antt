@@ -1,10 +1,8 @@
 -- What the rule of versions carries on: a number that a cell has reached it has reached from then on. `r` is a pass that looked at the list.
-use Rattle.std.proofs.Common.{◌≡◌, ◌<◌, ◌≤◌, ℕ, suc, zero, List, [], length, Option, append-nil, refl, sym, subst, arith}
-use base.Growing.{prefix_trans}
+use Rattle.std.proofs.Common.{◌<◌, ◌≤◌, ℕ, suc, zero, List, [], length, Option, append-nil, refl, sym, subst, arith}
 use base.Stored.{Coded}
 use mathlib.Core.List.{IsPrefix}
 use Rattle.seize.specs.Answer.{Answer}
-use Rattle.seize.specs.Laws.{moments_seen}
 use Rattle.seize.specs.Machine.Event.{Event}
 use Rattle.seize.specs.Machine.History.{Moment}
 use Rattle.seize.specs.Machine.State.{link_at}

@@ -1,5 +1,5 @@
 -- What a reader knows after a reading, a publication, or a look.
-use Rattle.std.proofs.Common.{◌≡◌, ◌<◌, ◌≤◌, ℕ, List, Option, Some, IfErr, IfOk, sym, ap, subst, ◌∙◌, arith}
+use Rattle.std.proofs.Common.{◌≡◌, ◌<◌, ◌≤◌, ℕ, List, Option, Some, IfErr, IfOk, sym, subst, arith}
 use Rattle.std.specs.Coded.{le_prop}
 use Rattle.std.proofs.Math.Logic.{∥∥₁_elim, ∥∥₁_map}
 use denote.Bor.{Bor}
@@ -7,7 +7,6 @@ use base.Stored.{Coded, Gv}
 use Rattle.core.specs.declared.result.Result.{Result}
 use Rattle.core.specs.declared.result.Result.TheVariants.{Err, Ok}
 use Rattle.seize.specs.Answer.{Answer}
-use Rattle.seize.specs.Collectors.{seen_by}
 use Rattle.seize.specs.Machine.Event.{Event}
 use Rattle.seize.specs.Makes.{Makes, MakesNone}
 use Rattle.seize.specs.declared.collector.Collector.{Collector}
@@ -18,7 +17,7 @@ use Rattle.seize_atomic.specs.Cells.{cells_kind}
 use Rattle.seize_atomic.proofs.Facts.{alters_make}
 use Rattle.seize_versions.specs.Numbers.{MakesNext, number_of}
 use Rattle.seize_versions.specs.Reached.{HasReached, KeepsToRule, KnowsThen}
-use Rattle.seize_versions.specs.Versions.{AltersVersion, LooksAt, Publishes, PublishesAt, ReadsVersion, versions_cell, versions_home}
+use Rattle.seize_versions.specs.Versions.{AltersVersion, LooksAt, Publishes, PublishesAt, ReadsVersion, versions_cell}
 use Rattle.seize_versions.specs.declared.version.NotPublished.{NotPublished}
 use Rattle.seize_versions.specs.declared.version.NotPublished.TheVariants.{Contended, LastNumber, NoMemory, Refused}
 use Rattle.seize_versions.specs.declared.version.Version.{Version}
@@ -49,7 +48,6 @@ module _ {T C : Type 0} {c : home.Ghosts C (Version T)} (versions : Versions T C
 
 module _ {T R : Type 0} {c : home.Ghosts (Collector (Version T) R) (Version T)} (versions : Versions T (Collector (Version T) R) c) (coded : Coded (Version T)) {p r : Pass} (kept : KeepsToRule versions coded.code r) (n : ℕ)
     (known : ∥ HasReached versions coded.code n p ∥₁) where
-
   -- **A look: what the cell has reached, it has reached still.**
   pub looked : {es : List (Event × Answer)} → Makes p r es → ∥ HasReached versions coded.code n r ∥₁
   looked made = ∥∥₁_map known (λ k. reached_still coded kept (versions_cell versions) made n k)

@@ -156,7 +156,9 @@ impl<'v, 'c, T: Drop> Reader<'v, 'c, T> {
             (reader_pass self.old) (reader_pass self.new) result }
         ensures alters { PublishesOn (the_row T.row).coded.code (F.post f) tries self.old self.new result }
     {
-        let published = self.versions.publish(rt, &self.guard, f, tries, &mut self.pass);
+        let published = self
+            .versions
+            .publish(rt, &self.guard, f, tries, &mut self.pass);
         self.versions.know(&mut self.pass);
         self.newest = newest_then(self.newest, &published);
         published

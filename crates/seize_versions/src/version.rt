@@ -34,8 +34,7 @@ impl<T: Drop> Reclaim<Version<T>> for ByNumber {
         _kind: u64,
         _value: Version<T>,
         _further: &mut Further<'_, Version<T>, ByNumber>,
-    ) {
-    }
+    ) {}
 }
 
 /// Every type says by which code the list names its values. There is nothing to implement: a struct that has a `Reader` as a field, for any

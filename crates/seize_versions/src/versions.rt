@@ -23,9 +23,7 @@ impl<'c, T: Drop, R: Reclaim<Version<T>>> Versions<'c, T, Collector<Version<T>, 
     ghost use Rattle.seize_versions.specs.Versions.{versions_cell, versions_home};
 
     /// The cell that is link 0 of this collector. It is empty where the link is. It takes no memory.
-    pub fn new(
-        collector: &'c Collector<Version<T>, R>,
-    ) -> Versions<'c, T, Collector<Version<T>, R>>
+    pub fn new(collector: &'c Collector<Version<T>, R>) -> Versions<'c, T, Collector<Version<T>, R>>
         requires there { 0 < its_links (its_words collector.now) }
         ensures { (versions_home result ≡ collector.now) × (versions_cell result ≡ 0) }
     {
@@ -90,12 +88,7 @@ impl<'c, T: Drop, C: Home<Version<T>>> Versions<'c, T, C> {
     ///
     /// `Refused` where `f` refuses. `LastNumber` where the number is `u64::MAX`: then `f` is not called. `NoMemory` where a block is
     /// refused, and `Contended` where all tries were lost, at once where `tries` is 0.
-    pub fn publish<
-        G: Guard<Version<T>, At = C>,
-        W: Wait,
-        E,
-        F: Fn(Option<&T>) -> Result<T, E>,
-    >(
+    pub fn publish<G: Guard<Version<T>, At = C>, W: Wait, E, F: Fn(Option<&T>) -> Result<T, E>>(
         &self,
         rt: &W,
         guard: &G,
