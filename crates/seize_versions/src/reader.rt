@@ -187,11 +187,13 @@ impl<'v, 'c, T: Drop> Reader<'v, 'c, T> {
         guard.leave(rt, &mut pass);
     }
 
-    /// Ends the reader: its guard, which is to leave, and the pass, which has seen all that the reader did.
+    /// Ends the reader: its guard, which is to leave, and the pass, which has seen all that the reader did. It knows still which number the
+    /// cell has reached.
     pub fn into_parts(self) -> (OwnedGuard<'c, Version<T>, ByNumber>, Pass<'c>)
         ensures of { IsPassOf (owned_collector result.0) result.1
             × (owned_collector result.0 ≡ versions_words (reader_versions self.entry)) }
         ensures parts { (owned_slot result.0 ≡ reader_slot self.entry) × (result.1 ≡ reader_pass self.entry) }
+        ensures reached { ∥ HasReached (reader_versions self.entry) (the_row T.row).coded.code (reader_newest self.entry) result.1 ∥₁ }
     {
         let Reader {
             versions: _,

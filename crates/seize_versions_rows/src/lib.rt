@@ -1,4 +1,5 @@
-//! Tests of cells of versions: what one thread finds, the last number, what readers see while others publish, and that each value ends once.
+//! Tests of cells of versions: what one thread finds, the last number, what readers see while others publish, refused memory, and that each
+//! value ends once.
 #![tactic(auto)]
 
 #[cfg(test)]
@@ -7,5 +8,7 @@ mod alone;
 mod ends;
 #[cfg(test)]
 mod last;
+#[cfg(test)]
+mod refused;
 #[cfg(test)]
 mod threads;
