@@ -1,0 +1,4 @@
+pub mod Facts
+pub mod Next
+pub mod Reached
+pub mod Readers

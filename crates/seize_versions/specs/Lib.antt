@@ -1,0 +1,4 @@
+pub mod Numbers
+pub mod Versions
+pub mod Reached
+pub mod Readers
