@@ -1,5 +1,5 @@
-//! How eight threads leave their registrations, all in one way: these end, are forgotten or lost, or their guards are. What was retired ends
-//! as all is reclaimed, or with the collector, but for the batches of lost registrations, and for values that wait for lost guards.
+//! How eight threads leave their registrations, all in one way: these end, are forgotten or lost, or their guards are. What was retired
+//! ends as all is reclaimed, or with the collector, but for the batches of lost registrations, and for values that wait for lost guards.
 
 use crate::ending::{Counting, collector, put_in_all, retire};
 use seize::{Guard, LocalGuard, Refusal, Registration};

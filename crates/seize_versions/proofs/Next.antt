@@ -22,7 +22,7 @@ use Rattle.seize_atomic.specs.Cells.{cells_kind}
 use Rattle.seize_atomic.specs.declared.cells.NotAltered.{NotAltered}
 use Rattle.seize_atomic.specs.declared.cells.NotAltered.TheVariants as not_altered
 use Rattle.seize_atomic.proofs.Facts.{altered, refused, was_read}
-use Rattle.seize_versions.specs.Numbers.{IsNext, IsOlder, MakesNext, MayPublish, Settles, number_of, value_in}
+use Rattle.seize_versions.specs.Numbers.{IsNext, IsOlder, MakesNext, MayPublish, ComesTo, number_of, value_in}
 use Rattle.seize_versions.specs.Versions.{Publishes, PublishesAt, ReadsVersion, RefusesAt, versions_cell}
 use Rattle.seize_versions.specs.declared.version.NotPublished.{NotPublished}
 use Rattle.seize_versions.specs.declared.version.NotPublished.TheVariants.{Contended, LastNumber, NoMemory, Refused}
@@ -72,7 +72,7 @@ module _ {T C : Type 0} {c : home.Ghosts C (Version T)} (versions : Versions T C
         go Contended m since looks refusal = tt
 
     -- **A publication has its moment, also where the function refused.**
-    pub settles : (answer : Result ℕ (NotAltered (NotPublished E))) → Alters answer → (result : Result ℕ (NotPublished E)) → Settles answer result → Publishes versions code post s p q result
+    pub settles : (answer : Result ℕ (NotAltered (NotPublished E))) → Alters answer → (result : Result ℕ (NotPublished E)) → ComesTo answer result → Publishes versions code post s p q result
     settles (Ok n) alters result is = subst (Publishes versions code post s p q) (sym is) (published n alters)
     settles (Err (not_altered.Refused why)) alters result is = subst (Publishes versions code post s p q) (sym is) (refuses why alters)
     settles (Err not_altered.NoMemory) alters result is = subst (Publishes versions code post s p q) (sym is) tt

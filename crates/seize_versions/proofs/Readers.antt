@@ -16,7 +16,7 @@ use Rattle.seize_guards.specs.declared.parts.Home as home
 use Rattle.seize_atomic.specs.Cells.{cells_kind}
 use Rattle.seize_atomic.proofs.Facts.{alters_make}
 use Rattle.seize_versions.specs.Numbers.{MakesNext, number_of}
-use Rattle.seize_versions.specs.Reached.{HasReached, KeepsToRule, KnowsThen}
+use Rattle.seize_versions.specs.Reached.{HoldsAtLeast, KeepsToRule, KnowsThen}
 use Rattle.seize_versions.specs.Versions.{AltersVersion, LooksAt, Publishes, PublishesAt, ReadsVersion, versions_cell}
 use Rattle.seize_versions.specs.declared.version.NotPublished.{NotPublished}
 use Rattle.seize_versions.specs.declared.version.NotPublished.TheVariants.{Contended, LastNumber, NoMemory, Refused}
@@ -47,9 +47,9 @@ module _ {T C : Type 0} {c : home.Ghosts C (Version T)} (versions : Versions T C
         (made.0, then_none made.1 none)
 
 module _ {T R : Type 0} {c : home.Ghosts (Collector (Version T) R) (Version T)} (versions : Versions T (Collector (Version T) R) c) (coded : Coded (Version T)) {p r : Pass} (kept : KeepsToRule versions coded.code r) (n : ℕ)
-    (known : ∥ HasReached versions coded.code n p ∥₁) where
+    (known : ∥ HoldsAtLeast versions coded.code n p ∥₁) where
   -- **A look: what the cell has reached, it has reached still.**
-  pub looked : {es : List (Event × Answer)} → Makes p r es → ∥ HasReached versions coded.code n r ∥₁
+  pub looked : {es : List (Event × Answer)} → Makes p r es → ∥ HoldsAtLeast versions coded.code n r ∥₁
   looked made = ∥∥₁_map known (λ k. reached_still coded kept (versions_cell versions) made n k)
 
   -- **A reading: it finds no older version.**
@@ -57,7 +57,7 @@ module _ {T R : Type 0} {c : home.Ghosts (Collector (Version T) R) (Version T)} 
     pub read_no_older : n ≤ number_of x
     read_no_older = ∥∥₁_elim known le_prop (λ k. reached_at coded kept (versions_cell versions) reads.0.1 n k reads.1.0 reads.1.1 x reads.1.3)
 
-    pub read_reached : ∥ HasReached versions coded.code (number_of x) r ∥₁
+    pub read_reached : ∥ HoldsAtLeast versions coded.code (number_of x) r ∥₁
     read_reached = ∥∥₁_map known (λ k. reached_before coded kept (versions_cell versions) reads.0.1 k.0 reads.1.0 reads.1.1 x reads.1.3)
 
   -- **A publication: its version is newer.**
@@ -67,19 +67,19 @@ module _ {T R : Type 0} {c : home.Ghosts (Collector (Version T) R) (Version T)} 
         let le : n ≤ number_of x = ∥∥₁_elim known le_prop (λ k. reached_at coded kept (versions_cell versions) made n k m since x before) in
         omega (arith, le, next.0, is)
 
-    reached_by : (k : ℕ) → PublishesAt versions coded.code post s p r k → ∥ HasReached versions coded.code k r ∥₁
+    reached_by : (k : ℕ) → PublishesAt versions coded.code post s p r k → ∥ HoldsAtLeast versions coded.code k r ∥₁
     reached_by k (m, since, only, (x, y, before, after, next, is)) =
-        subst (λ (m : ℕ). ∥ HasReached versions coded.code m r ∥₁) (sym is) (∥∥₁_map known (λ k. reached_after coded kept (versions_cell versions) made k.0 m since (Some y) after))
+        subst (λ (m : ℕ). ∥ HoldsAtLeast versions coded.code m r ∥₁) (sym is) (∥∥₁_map known (λ k. reached_after coded kept (versions_cell versions) made k.0 m since (Some y) after))
 
     pub publish_newer : (result : Result ℕ (NotPublished E)) → Publishes versions coded.code post s p r result → (k : ℕ) → IfOk result (λ m. k ≡ m) → IfErr result (λ _. k ≡ n) → KnowsThen n k result
     publish_newer (Ok m) at k is not_made = (newer_than m at, is)
     publish_newer (Err why) at k is not_made = not_made
 
-    pub publish_reached : (result : Result ℕ (NotPublished E)) → Publishes versions coded.code post s p r result → (k : ℕ) → IfOk result (λ m. k ≡ m) → IfErr result (λ _. k ≡ n) → ∥ HasReached versions coded.code k r ∥₁
-    publish_reached (Ok m) at k is not_made = subst (λ (m : ℕ). ∥ HasReached versions coded.code m r ∥₁) (sym is) (reached_by m at)
-    publish_reached (Err why) at k is not_made = subst (λ (m : ℕ). ∥ HasReached versions coded.code m r ∥₁) (sym not_made) (looked made)
+    pub publish_reached : (result : Result ℕ (NotPublished E)) → Publishes versions coded.code post s p r result → (k : ℕ) → IfOk result (λ m. k ≡ m) → IfErr result (λ _. k ≡ n) → ∥ HoldsAtLeast versions coded.code k r ∥₁
+    publish_reached (Ok m) at k is not_made = subst (λ (m : ℕ). ∥ HoldsAtLeast versions coded.code m r ∥₁) (sym is) (reached_by m at)
+    publish_reached (Err why) at k is not_made = subst (λ (m : ℕ). ∥ HoldsAtLeast versions coded.code m r ∥₁) (sym not_made) (looked made)
 
 -- **A reader that saw nothing.**
 pub nothing_seen : {T R : Type 0} {c : home.Ghosts (Collector (Version T) R) (Version T)} (versions : Versions T (Collector (Version T) R) c) (code : Version T → Gv) (r : Pass) → KeepsToRule versions code r
-    → HasReached versions code 0 r
+    → HoldsAtLeast versions code 0 r
 nothing_seen versions code r kept = (kept.goes_on, λ some. absurd (omega (arith, some)))

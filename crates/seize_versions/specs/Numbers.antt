@@ -1,12 +1,12 @@
 -- Versions by their numbers. None is the content of an empty cell.
 --     number_of x               the number of a version, and 0 where there is none;  value_in x     its value
 --     IsOlder x y               the number of x is less than that of y
---     MayPublish keeps owners store i     each version may take the place of one with a smaller number in cell i: by the rule of links, and its
---                               blocks are of this store
+--     MayPublish keeps owners store i     each version may take the place of one with a smaller number in cell i: by the rule of links,
+--                               and its blocks are of this store
 --     IsNext post x y           y is the next version after x: its number is one more, and its value one that the function may answer for
 --                               the value of x
 --     MakesNext post x made     the next version after x was made, with its number; or the function refused; or x has the last number
---     Settles altered result    what is answered where the alteration of the cell came to this
+--     ComesTo altered result    what is answered where the alteration of the cell came to this
 use Rattle.std.specs.Prelude.{◌≡◌, ◌<◌, ◌+◌, ◌-◌, ◌^◌, ℕ, List, Option, None, Some, option_copied}
 use denote.Bor.{Bor}
 use Rattle.core.specs.declared.result.Result.{Result}
@@ -45,8 +45,8 @@ module _ {T E : Type 0} (post : Option (Bor T) → Result T E → Type 0) where
   MakesNext x (Err (Refused e)) = MayAnswer post (value_in (option_copied x)) (Err e)
   MakesNext x _ = ⊥
 
-abbrev pub Settles : {E : Type 0} → Result ℕ (NotAltered (NotPublished E)) → Result ℕ (NotPublished E) → Type 0
-Settles (Ok n) result = result ≡ Ok n
-Settles (Err (not_altered.Refused why)) result = result ≡ Err why
-Settles (Err not_altered.NoMemory) result = result ≡ Err NoMemory
-Settles (Err not_altered.Contended) result = result ≡ Err Contended
+abbrev pub ComesTo : {E : Type 0} → Result ℕ (NotAltered (NotPublished E)) → Result ℕ (NotPublished E) → Type 0
+ComesTo (Ok n) result = result ≡ Ok n
+ComesTo (Err (not_altered.Refused why)) result = result ≡ Err why
+ComesTo (Err not_altered.NoMemory) result = result ≡ Err NoMemory
+ComesTo (Err not_altered.Contended) result = result ≡ Err Contended

@@ -1,8 +1,9 @@
 -- What a pass knows of a cell of versions. `code` is the code of a version.
 --     IsNoOlder n x             the number of x is not less than n
---     KeepsToRule versions code pass     each change of a link that the pass has seen, since the collector was shared, was to a greater number
---     HasReached versions code n pass     as the pass has seen, the cell holds a version whose number is not less than n; where n is 0, it may
---                               be empty. The pass has seen all that came before the collector was shared, since when the rule holds
+--     KeepsToRule versions code pass     each change of a link that the pass has seen, since the collector was shared, was to a greater
+--                               number
+--     HoldsAtLeast versions code n pass     as the pass has seen, the cell holds a version whose number is not less than n; where n is 0,
+--                               it may be empty. The pass has seen all that came before the collector was shared, since when the rule holds
 --     KnowsThen n k result      a number that was published is greater than n, and is k; where none was, k is n
 use Rattle.std.specs.Prelude.{◌≡◌, ◌<◌, ◌≤◌, ℕ, Option}
 use mathlib.Core.List.{IsPrefix}
@@ -28,9 +29,9 @@ abbrev pub KeepsToRule : {T R : Type 0} {c : home.Ghosts (Collector (Version T) 
     → (Version T → Gv) → Pass → Type 0
 KeepsToRule versions code pass = KeepsSince code (λ _ x y. IsOlder x y) (seen_by (versions_home versions)) pass
 
-abbrev pub HasReached : {T R : Type 0} {c : home.Ghosts (Collector (Version T) R) (Version T)} → Versions T (Collector (Version T) R) c
+abbrev pub HoldsAtLeast : {T R : Type 0} {c : home.Ghosts (Collector (Version T) R) (Version T)} → Versions T (Collector (Version T) R) c
     → (Version T → Gv) → ℕ → Pass → Type 0
-HasReached {T} versions code n pass =
+HoldsAtLeast {T} versions code n pass =
     IsPrefix (seen_by (versions_home versions)) pass.seen
     × (0 < n → HoldsOf code (IsNoOlder n) (link_at (state_seen pass) (versions_cell versions)))
 

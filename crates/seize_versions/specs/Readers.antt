@@ -4,8 +4,8 @@
 --     IsSameReader r r'         it has the cell and the slot that it had
 --     PutsNone code pass v vs     this value is handed with no others: the reclaimer puts none
 --     BeginsReader by r         the pass `by` is a new one of the collector, with which its slot was taken and entered, and then it looked
---     ReadsOn r r' x            it read the cell, which holds x at a moment since (ReadsVersion). The number of x is not less than that which
---                               it knew, and is the one that it knows then
+--     ReadsOn r r' x            it read the cell, which holds x at a moment since (ReadsVersion). The number of x is not less than that
+--                               which it knew, and is the one that it knows then
 --     PublishesOn post tries r r' result     its slot altered the cell by the next version (AltersVersion), and then its pass looked
 --     RefreshesOn r r'          its slot refreshed, and then its pass looked
 --     LeavesOn r                its slot left, and then its use ended

@@ -10,8 +10,8 @@
 --     RefusesAt versions code post s pass pass' why     slot s looked at the cell, and the function may refuse so for what it holds there;
 --                               or that has the last number. For other errors this says nothing
 --     Publishes versions code post s pass pass' result     it published so, or could not
---     AltersVersion versions code post s tries pass pass' result     slot s altered the cell (AltersCell), by a function that makes the next
---                               version
+--     AltersVersion versions code post s tries pass pass' result     slot s altered the cell (AltersCell), by a function that makes the
+--                               next version
 use Rattle.std.specs.Prelude.{◌≡◌, ◌-◌, ◌^◌, ℕ, Option, Some}
 use denote.Bor.{Bor}
 use base.Stored.{Gv}
@@ -31,7 +31,7 @@ use Rattle.seize_words.specs.declared.words.Words.{Words}
 use Rattle.seize_atomic.specs.Alters.{AltersCell, MayAnswer}
 use Rattle.seize_atomic.specs.Cells.{cells_home, cells_kind}
 use Rattle.seize_atomic.specs.declared.cells.NotAltered.{NotAltered}
-use Rattle.seize_versions.specs.Numbers.{IsNext, MakesNext, Settles, number_of, value_in}
+use Rattle.seize_versions.specs.Numbers.{IsNext, MakesNext, ComesTo, number_of, value_in}
 use Rattle.seize_versions.specs.declared.version.NotPublished.{NotPublished}
 use Rattle.seize_versions.specs.declared.version.NotPublished.TheVariants.{LastNumber, Refused}
 use Rattle.seize_versions.specs.declared.version.Version.{Version}
@@ -79,4 +79,4 @@ module _ {T C : Type 0} {c : home.Ghosts C (Version T)} (versions : Versions T C
       abbrev pub AltersVersion : ℕ → Pass → Pass → Result ℕ (NotPublished E) → Type 0
       AltersVersion tries pass pass' result =
           (answer : Result ℕ (NotAltered (NotPublished E)))
-          × AltersCell (MakesNext post) code s versions_cell (cells_kind versions.cells) tries pass pass' answer × Settles answer result
+          × AltersCell (MakesNext post) code s versions_cell (cells_kind versions.cells) tries pass pass' answer × ComesTo answer result

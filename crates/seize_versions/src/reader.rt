@@ -1,9 +1,9 @@
-//! A reader, which knows the newest number that it saw. By the rule of versions each later reading finds no older one, whatever other threads
-//! do in between. It has a guard of its own and a pass, and knows by its type that they are of the cell's collector.
+//! A reader, which knows the newest number that it saw. By the rule of versions each later reading finds no older one, whatever other
+//! threads do in between. It has a guard of its own and a pass, and knows by its type that they are of the cell's collector.
 ghost use Rattle.std.specs.Prelude.{◌≡◌, IfErr, IfOk, option_copied, option_map};
 ghost use Rattle.seize.specs.Guards.{owned_collector};
 ghost use Rattle.seize.specs.Links.{shared_value};
-ghost use Rattle.seize_versions.specs.Reached.{HasReached};
+ghost use Rattle.seize_versions.specs.Reached.{HoldsAtLeast};
 ghost use Rattle.seize_versions.specs.Versions.{IsForVersions};
 
 use crate::version::{ByNumber, Named, NotPublished, Version, number};
@@ -13,8 +13,8 @@ use std::sync::Wait;
 
 /// A reader of a cell of versions. It is spent by `leave`, or by `into_parts`.
 ///
-/// While it stands, nothing ends that it may have found: a reader that lives for long calls `refresh` now and then. A struct that holds one,
-/// for any `T`, repeats its bounds.
+/// While it stands, nothing ends that it may have found: a reader that lives for long calls `refresh` now and then. A struct that holds
+/// one, for any `T`, repeats its bounds.
 pub struct Reader<'v, 'c, T: Drop>
 where
     Version<T>: Named,
@@ -25,7 +25,7 @@ where
     pass: Pass<'c>,
     newest: u64,
     ghost of: { IsForVersions versions.now (owned_collector guard) pass },
-    ghost reached: { ∥ HasReached versions.now ⟦<Version<T> as Named>⟧.code newest pass ∥₁ },
+    ghost reached: { ∥ HoldsAtLeast versions.now ⟦<Version<T> as Named>⟧.code newest pass ∥₁ },
 }
 
 impl<'c, T: Drop> Versions<'c, T, Collector<Version<T>, ByNumber>> {
@@ -193,7 +193,7 @@ impl<'v, 'c, T: Drop> Reader<'v, 'c, T> {
         ensures of { IsPassOf (owned_collector result.0) result.1
             × (owned_collector result.0 ≡ versions_words (reader_versions self.entry)) }
         ensures parts { (owned_slot result.0 ≡ reader_slot self.entry) × (result.1 ≡ reader_pass self.entry) }
-        ensures reached { ∥ HasReached (reader_versions self.entry) (the_row T.row).coded.code (reader_newest self.entry) result.1 ∥₁ }
+        ensures reached { ∥ HoldsAtLeast (reader_versions self.entry) (the_row T.row).coded.code (reader_newest self.entry) result.1 ∥₁ }
     {
         let Reader {
             versions: _,

@@ -2,7 +2,7 @@
 ghost use base.Stored.{Gv};
 ghost use Rattle.std.proofs.Common.{lit<};
 ghost use Rattle.std.specs.Prelude.{◌≡◌, option_copied};
-ghost use Rattle.seize_versions.specs.Numbers.{IsOlder, MakesNext, Settles, number_of, value_in};
+ghost use Rattle.seize_versions.specs.Numbers.{IsOlder, MakesNext, ComesTo, number_of, value_in};
 
 use seize::{Further, Puts, Reclaim};
 use seize_atomic::NotAltered;
@@ -105,7 +105,7 @@ fn value<T: Drop>(version: Option<&Version<T>>) -> Option<&T>
 pub(crate) fn settled<E>(
     altered: Result<u64, NotAltered<NotPublished<E>>>,
 ) -> Result<u64, NotPublished<E>>
-    ensures { Settles altered result }
+    ensures { ComesTo altered result }
 {
     match altered {
         Ok(number) => Ok(number),

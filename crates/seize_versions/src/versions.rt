@@ -1,5 +1,5 @@
-//! The cell: one link of a collector of versions. A reading is one read of it, and a publication one won exchange. So each has one moment of
-//! the list of all events, at which the cell is what the contract says.
+//! The cell: one link of a collector of versions. A reading is one read of it, and a publication one won exchange. So each has one moment
+//! of the list of all events, at which the cell is what the contract says.
 ghost use Rattle.std.specs.Prelude.{◌≡◌, ◌<◌, option_copied, option_map};
 ghost use Rattle.seize.specs.Collectors.{its_links};
 ghost use Rattle.seize_atomic.specs.Cells.{cells_home};
@@ -77,9 +77,9 @@ impl<'c, T: Drop, C: Home<Version<T>>> Versions<'c, T, C> {
         self.cells.read(guard, self.cell, pass)
     }
 
-    /// Puts the next version into the cell, and gives its number: one more than that of the version whose place it takes, or 1. Its value is
-    /// what `f` makes of that version's value, or of `None` where the cell is empty. `f` may refuse. Where another exchange came first, `f`
-    /// is given what that one put, `tries` times in all, as `u32::MAX`.
+    /// Puts the next version into the cell, and gives its number: one more than that of the version whose place it takes, or 1. Its value
+    /// is what `f` makes of that version's value, or of `None` where the cell is empty. `f` may refuse. Where another exchange came
+    /// first, `f` is given what that one put, `tries` times in all, as `u32::MAX`.
     ///
     /// A try takes memory for a block where no place of the slot's own is free. A value that did not go in ends within the call. The
     /// version that came out is retired as of kind 0, and so the call waits as `Guard::defer_retire` does.
@@ -102,7 +102,8 @@ impl<'c, T: Drop, C: Home<Version<T>>> Versions<'c, T, C> {
         requires callable { F.IsAlwaysCallable f }
         requires rule { MayPublish G.Reclaimer.keeps G.Reclaimer.owners (its_store (G.its_collector guard.now)) (versions_cell self.now) }
         ensures publishes { Publishes self.now (the_row T.row).coded.code (F.post f) (G.its_slot guard.now) pass.old pass.new result }
-        ensures alters { AltersVersion self.now (the_row T.row).coded.code (F.post f) (G.its_slot guard.now) tries pass.old pass.new result }
+        ensures alters { AltersVersion self.now (the_row T.row).coded.code (F.post f) (G.its_slot guard.now) tries pass.old pass.new
+            result }
         ensures pass { IsPassOf (G.its_collector guard.now) pass.new }
     {
         let made = move |version: Option<&Version<T>>| -> Made<T, E>

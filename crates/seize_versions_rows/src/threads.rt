@@ -1,4 +1,5 @@
-//! Two readers and two publishers of one cell. No reader sees an older version after a newer one, or a version of which a part is another's.
+//! Two readers and two publishers of one cell. No reader sees an older version after a newer one, or a version of which a part is
+//! another's.
 ghost use Rattle.std.specs.Prelude.{◌<◌, IfOk};
 ghost use Rattle.seize.specs.Collectors.{its_links, its_words};
 

@@ -1,6 +1,6 @@
 use Rattle.std.proofs.Common.{◌≤◌, ℕ, option_copied, sym, subst}
 use Rattle.seize_versions.specs.Numbers.{number_of}
-use Rattle.seize_versions.specs.Reached.{HasReached}
+use Rattle.seize_versions.specs.Reached.{HoldsAtLeast}
 use Rattle.seize_versions.specs.Readers.{reader_newest, reader_slot, reader_versions}
 use Rattle.seize_versions.specs.contracts.version.Version.{the_row}
 use Rattle.seize_versions.proofs.Readers.{read_no_older, read_reached}
@@ -10,7 +10,7 @@ use Rattle.seize_versions.proofs.reader.Reader.read.Goals as goal
 pub invariant_of-self-clause-reached : goal.invariant_of-self-clause-reached
 invariant_of-self-clause-reached g c =
     let reader = c.args.self.now in let versions = reader_versions reader in let coded = (the_row g.row.T).coded in
-    subst (λ (n : ℕ). ∥ HasReached versions coded.code n c.look-version.new.pass ∥₁) (sym c.number-self.ensures)
+    subst (λ (n : ℕ). ∥ HoldsAtLeast versions coded.code n c.look-version.new.pass ∥₁) (sym c.number-self.ensures)
     (read_reached versions coded c.look-version.ensures.rule (reader_newest reader) reader.reached (reader_slot reader) (option_copied c.look-version.result) c.look-version.ensures.reads)
 
 -- and that is no older than what it knew
