@@ -12,7 +12,7 @@ use std::test::*;
 use std::thread;
 use std::thread::Threads;
 
-// How often a thread looks at most.
+// How often a thread looks at most. It yields in between, since the other one may not run at once.
 const MOST: u64 = 10_000_000;
 
 // A collector of numbers with two links.
@@ -56,6 +56,7 @@ fn look(guard: &LocalGuard<'_, '_, u64>, link: usize, pass: &mut Pass) -> Option
         if let Some(found) = guard.protect(link, pass) {
             return Some(*found);
         }
+        thread::yield_now();
     }
     None
 }

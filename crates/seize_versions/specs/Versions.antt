@@ -1,5 +1,6 @@
 -- What the link of a cell of versions shows, in a state of the list of all events. `code` is the code of a version.
---     versions_home versions, versions_cell versions     its collector, and its link;  versions_words versions     the collector's words
+--     versions_home versions, versions_cell versions, versions_kind versions     its collector, its link, and the kind as of which what
+--                               comes out is retired;  versions_words versions     the collector's words
 --     IsForVersions versions words pass     these are the words of its collector, and the pass is one of it
 --     HoldsIn versions code st x     in this state the cell holds the version x, or nothing
 --     LooksAt versions code s pass pass' x     at a moment, of those that the pass has seen since, slot s reads the cell, or loses an
@@ -44,6 +45,9 @@ module _ {T C : Type 0} {c : home.Ghosts C (Version T)} (versions : Versions T C
   abbrev pub versions_cell : ℕ
   versions_cell = versions.cell
 
+  abbrev pub versions_kind : ℕ
+  versions_kind = cells_kind versions.cells
+
   abbrev pub versions_words : Words (Version T)
   versions_words = c.its_words versions_home
 
@@ -79,4 +83,4 @@ module _ {T C : Type 0} {c : home.Ghosts C (Version T)} (versions : Versions T C
       abbrev pub AltersVersion : ℕ → Pass → Pass → Result ℕ (NotPublished E) → Type 0
       AltersVersion tries pass pass' result =
           (answer : Result ℕ (NotAltered (NotPublished E)))
-          × AltersCell (MakesNext post) code s versions_cell (cells_kind versions.cells) tries pass pass' answer × ComesTo answer result
+          × AltersCell (MakesNext post) code s versions_cell versions_kind tries pass pass' answer × ComesTo answer result

@@ -1,5 +1,5 @@
-//! A reader, which knows the newest number that it saw. By the rule of versions each later reading finds no older one, whatever other
-//! threads do in between. It has a guard of its own and a pass, and knows by its type that they are of the cell's collector.
+//! A reader, which knows the newest number that it read or published. By the rule of versions each later reading finds no older one,
+//! whatever other threads do in between. It has a guard of its own and a pass, and knows by its type that they are of the cell's collector.
 ghost use Rattle.std.specs.Prelude.{◌≡◌, IfErr, IfOk, option_copied, option_map};
 ghost use Rattle.seize.specs.Guards.{owned_collector};
 ghost use Rattle.seize.specs.Links.{shared_value};
@@ -100,7 +100,7 @@ impl<'v, 'c, T: Drop> Reader<'v, 'c, T> {
     ghost use Rattle.seize_versions.specs.contracts.version.Version.{the_row};
     ghost use Rattle.seize_versions.specs.declared.version.Version.{Version as a_version};
 
-    /// The newest number that it saw, and 0 where it saw none.
+    /// The newest number that it read or published, and 0 where there is none. A publication that was not made adds nothing.
     pub fn newest(&self) -> u64
         ensures { result ≡ reader_newest self.now }
     {
@@ -136,7 +136,7 @@ impl<'v, 'c, T: Drop> Reader<'v, 'c, T> {
         version.copied()
     }
 
-    /// Publishes a version: see `Versions::publish`, also for what it takes. Its number is greater than each that the reader saw before.
+    /// Publishes a version: see `Versions::publish`, also for what it takes. Its number is greater than each that it read or published.
     ///
     /// # Errors
     ///
@@ -164,7 +164,7 @@ impl<'v, 'c, T: Drop> Reader<'v, 'c, T> {
         published
     }
 
-    /// Lets go of what it has found: its guard refreshes, by which values may end: see `OwnedGuard::refresh`. What it saw it knows still.
+    /// Lets go of what it has found: its guard refreshes, by which values may end: see `OwnedGuard::refresh`. It still knows its newest number.
     pub fn refresh<W: Wait>(&mut self, rt: &W)
         ensures same { IsSameReader self.old self.new }
         ensures newest { reader_newest self.new ≡ reader_newest self.old }
@@ -187,8 +187,8 @@ impl<'v, 'c, T: Drop> Reader<'v, 'c, T> {
         guard.leave(rt, &mut pass);
     }
 
-    /// Ends the reader: its guard, which is to leave, and the pass, which has seen all that the reader did. It knows still which number the
-    /// cell has reached.
+    /// Ends the reader: its guard, which is to leave, and the pass, which has seen all that the reader did. The pass still shows
+    /// that the cell has reached the newest number.
     pub fn into_parts(self) -> (OwnedGuard<'c, Version<T>, ByNumber>, Pass<'c>)
         ensures of { IsPassOf (owned_collector result.0) result.1
             × (owned_collector result.0 ≡ versions_words (reader_versions self.entry)) }

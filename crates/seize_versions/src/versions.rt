@@ -20,23 +20,23 @@ pub struct Versions<'c, T: Drop, C: Home<Version<T>>> {
 
 impl<'c, T: Drop, R: Reclaim<Version<T>>> Versions<'c, T, Collector<Version<T>, R>> {
     ghost use Rattle.seize.specs.Collectors.{its_words};
-    ghost use Rattle.seize_versions.specs.Versions.{versions_cell, versions_home};
+    ghost use Rattle.seize_versions.specs.Versions.{versions_cell, versions_home, versions_kind};
 
-    /// The cell that is link 0 of this collector. It is empty where the link is. It takes no memory.
+    /// The cell that is link 0 of this collector, which has at least one link. It is empty where the link is. It takes no memory.
     pub fn new(collector: &'c Collector<Version<T>, R>) -> Versions<'c, T, Collector<Version<T>, R>>
         requires there { 0 < its_links (its_words collector.now) }
-        ensures { (versions_home result ≡ collector.now) × (versions_cell result ≡ 0) }
+        ensures { (versions_home result ≡ collector.now) × (versions_cell result ≡ 0) × (versions_kind result ≡ 0) }
     {
         Versions::at(collector, 0)
     }
 
-    /// The cell that is this link of the collector, where there are several. It takes no memory.
+    /// The cell that is this link of the collector, which has more links than `cell`. It takes no memory.
     pub fn at(
         collector: &'c Collector<Version<T>, R>,
         cell: usize,
     ) -> Versions<'c, T, Collector<Version<T>, R>>
         requires there { cell < its_links (its_words collector.now) }
-        ensures { (versions_home result ≡ collector.now) × (versions_cell result ≡ cell) }
+        ensures { (versions_home result ≡ collector.now) × (versions_cell result ≡ cell) × (versions_kind result ≡ 0) }
     {
         Versions {
             cells: Cells::new(collector),
@@ -79,7 +79,7 @@ impl<'c, T: Drop, C: Home<Version<T>>> Versions<'c, T, C> {
 
     /// Puts the next version into the cell, and gives its number: one more than that of the version whose place it takes, or 1. Its value
     /// is what `f` makes of that version's value, or of `None` where the cell is empty. `f` may refuse. Where another exchange came
-    /// first, `f` is given what that one put, `tries` times in all, as `u32::MAX`.
+    /// first, `f` is given what that one put: so it tries `tries` times at most, and `u32::MAX` is as good as no limit.
     ///
     /// A try takes memory for a block where no place of the slot's own is free. A value that did not go in ends within the call. The
     /// version that came out is retired as of kind 0, and so the call waits as `Guard::defer_retire` does.
