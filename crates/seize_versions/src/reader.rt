@@ -164,7 +164,7 @@ impl<'v, 'c, T: Drop> Reader<'v, 'c, T> {
         published
     }
 
-    /// Lets go of what it has found: its guard refreshes, by which values may end: see `OwnedGuard::refresh`. It still knows its newest number.
+    /// Lets go of what it has found: its guard refreshes, so values may end (`OwnedGuard::refresh`). It still knows its newest number.
     pub fn refresh<W: Wait>(&mut self, rt: &W)
         ensures same { IsSameReader self.old self.new }
         ensures newest { reader_newest self.new ≡ reader_newest self.old }
